@@ -34,18 +34,19 @@ module _ {Ring : Type 0} (queues : RacingKind Ring) (device : BlockDevice) (race
         left = found.refuses;
       }
 
-  pub one_asks : (stable : Bool) (next : Ring) (named : Entry) (operation : Operation) (status writable : ℕ)
+  pub one_asks : (Takes : Ring → Type 0) (stable : Bool) (next : Ring) (named : Entry) (operation : Operation) (status writable : ℕ)
       (runs : List Segment) → asks_image request ≡ true → operation ≡ operation_of stable request
       → ((readable : List ℕ) → IsLeft device readable buffers request kept → runs ≡ runs_by request readable buffers)
-      → HasStatus buffers status writable → named ≡ entry → next ≡ queues.still.launched ring entry
-      → FindsOneThatAsks queues device races stage most stable a (standing_at s next tt left) named operation status writable
+      → HasStatus buffers status writable → named ≡ entry → next ≡ queues.still.launched ring entry → Takes ring
+      → FindsOneThatAsks queues device races stage most Takes stable a (standing_at s next tt left) named operation status writable
       buffers runs wanted
-  one_asks stable next named operation status writable runs asks told are place same launched =
+  one_asks Takes stable next named operation status writable runs asks told are place same launched taken =
       rw (same, launched) (record {
         at = standing_at s ring tt left;
         request = request;
         kept = kept;
         finds = finds;
+        taken = taken;
         asks = asks;
         operation_is = told;
         runs_are = are;

@@ -25,13 +25,15 @@ module _ {Ring : Type 0} (queues : RacingKind Ring) (device : BlockDevice) (race
     pub service : IsRefusedService queues (hosted_device device) races
         (λ state readable buffers request. IsLeft device readable buffers request kept) stage most a at buffers entry request wanted
 
-  -- Its request asks for the disk: the chain is in flight, and the host is told of it by the copy that was judged.
-  pub record FindsOneThatAsks (stable : Bool) (a b : Standing Ring (Unit {0})) (entry : Entry) (operation : Operation)
-      (status writable : ℕ) (buffers : List Buffer) (runs : List Segment) (wanted : Bool) : Type 0 where
+  -- Its request asks for the disk: the chain is in flight, and the host is told of it by the copy that was judged. `Takes` is
+  -- what is said of the ring that the chain was taken from.
+  pub record FindsOneThatAsks (Takes : Ring → Type 0) (stable : Bool) (a b : Standing Ring (Unit {0})) (entry : Entry)
+      (operation : Operation) (status writable : ℕ) (buffers : List Buffer) (runs : List Segment) (wanted : Bool) : Type 0 where
     pub at : Standing Ring (Unit {0})
     pub request : Request
     pub kept : List Segment
     pub finds : FindsRequest a at buffers entry request kept wanted
+    pub taken : Takes at.ring
     pub asks : asks_image request ≡ true
     pub operation_is : operation ≡ operation_of stable request
     pub runs_are : (readable : List ℕ) → IsLeft device readable buffers request kept

@@ -57,7 +57,8 @@ impl RacingDisk {
             (standing_at (M.sightings mem.old) queue.old tt limits.budget)
             (standing_at (M.sightings mem.new) queue.new tt outcome.left) outcome.ending outcome.wanted) }
         ensures asks { IfErr result (λ found. IfSome found.flight (λ flight.
-            FindsOneThatAsks Q.kind self.old.device (M.races mem.old) stage limits.rounds stable
+            FindsOneThatAsks Q.kind self.old.device (M.races mem.old) stage limits.rounds
+            (λ ring. Q.IsTaken ring flight.token) stable
             (standing_at (M.sightings mem.old) queue.old tt limits.budget)
             (standing_at (M.sightings mem.new) queue.new tt found.left)
             (Q.entry_of flight.token) flight.operation flight.status flight.writable chain.new runs.new found.wanted)) }

@@ -44,7 +44,8 @@ At = Standing Queue (Unit {0})
 abbrev Made : At → At → Type 0
 Made a b = made_as b.ring ≡ made_as a.ring
 
-module _ {T : Type 0} (entry_of : T → Entry) (device : BlockDevice) (races : Bool) (stage : Stage) (most : ℕ) (stable : Bool) where
+module _ {T : Type 0} (entry_of : T → Entry) (IsTaken : Queue → T → Type 0) (device : BlockDevice) (races : Bool) (stage : Stage)
+    (most : ℕ) (stable : Bool) where
   -- up to a request
   made_up_to : (a at : At) (buffers : List Buffer) (entry : Entry) (request : Request) (kept : List Segment) (wanted : Bool)
       → FindsRequest racing_queue device races stage most a at buffers entry request kept wanted → Made a at
@@ -56,7 +57,7 @@ module _ {T : Type 0} (entry_of : T → Entry) (device : BlockDevice) (races : B
   -- ---- a look
 
   made_asks : (here : InFlight T) (a b : At) (wanted : Bool)
-      → AsksIn racing_queue entry_of device races stage most stable here a b wanted → Made a b
+      → AsksIn racing_queue entry_of IsTaken device races stage most stable here a b wanted → Made a b
   made_asks here a b wanted asks =
       let finds = asks.finds in
       let at = finds.at in
@@ -73,23 +74,23 @@ module _ {T : Type 0} (entry_of : T → Entry) (device : BlockDevice) (races : B
       ∙ made_up_to a at finds.buffers finds.entry finds.request finds.kept wanted finds.finds
 
   made_finds : (asks : Option (InFlight T)) (a b : At) (wanted : Bool)
-      → FindsIn racing_queue entry_of device races stage most stable asks a b wanted → Made a b
+      → FindsIn racing_queue entry_of IsTaken device races stage most stable asks a b wanted → Made a b
   made_finds (Some here) a b wanted finds = made_asks here a b wanted finds
   made_finds None a b wanted finds = made_answers a b wanted finds
 
-module _ {T : Type 0} (entry_of : T → Entry) (device : BlockDevice) (races : Bool) (limits : LookLimits)
-    (stable : Bool) where
+module _ {T : Type 0} (entry_of : T → Entry) (IsTaken : Queue → T → Type 0) (device : BlockDevice) (races : Bool)
+    (limits : LookLimits) (stable : Bool) where
   -- ---- looks, one after another
 
   made_looks : (stage : Stage) (looks : List (Look Queue T)) (a b : Place Queue T)
-      → AreLooks racing_queue entry_of device races limits stable stage a looks b → Made a.service b.service
+      → AreLooks racing_queue entry_of IsTaken device races limits stable stage a looks b → Made a.service b.service
   made_looks stage [] a b are = ap (λ (p : Place Queue T). made_as p.service.ring) are
   made_looks stage (l ∷ looks) a b are =
       made_looks Next looks l.after b are.1
-      ∙ made_finds entry_of device races stage limits.rounds stable l.asks a.service l.after.service l.wanted are.0.finds
+      ∙ made_finds entry_of IsTaken device races stage limits.rounds stable l.asks a.service l.after.service l.wanted are.0.finds
 
   made_ends : (stage : Stage) (ending : LookEnding) (looks : List (Look Queue T)) (a b : Place Queue T) (wanted : Bool)
-      → EndsLooks racing_queue entry_of device races limits stable stage ending looks a b wanted → Made a.service b.service
+      → EndsLooks racing_queue entry_of IsTaken device races limits stable stage ending looks a b wanted → Made a.service b.service
   made_ends stage (Served ending) looks a b wanted ends =
       (service_stays (hosted_device device) races (stage_behind stage looks) limits.rounds a.service b.service ending
       ends.asked ends.service).made
@@ -99,13 +100,13 @@ module _ {T : Type 0} (entry_of : T → Entry) (device : BlockDevice) (races : B
   made_ends stage Idle looks a b wanted ends = absurd ends
 
   made_serves : (stage : Stage) (a b : Place Queue T) (ending : LookEnding) (wanted : Bool)
-      → ServesLooks racing_queue entry_of device races limits stable stage a b ending wanted → Made a.service b.service
+      → ServesLooks racing_queue entry_of IsTaken device races limits stable stage a b ending wanted → Made a.service b.service
   made_serves stage a b ending wanted serves =
       made_ends stage ending serves.looks serves.at b wanted serves.ends
       ∙ made_looks stage serves.looks a serves.at serves.are
 
   made_unless : (on_hold : Bool) (stage : Stage) (a b : Place Queue T) (ending : LookEnding) (wanted : Bool)
-      → LooksUnless racing_queue entry_of device races limits stable on_hold stage a b ending wanted
+      → LooksUnless racing_queue entry_of IsTaken device races limits stable on_hold stage a b ending wanted
       → Made a.service b.service
   made_unless true stage a b ending wanted idle = ap (λ (p : Place Queue T). made_as p.service.ring) idle.stands
   made_unless false stage a b ending wanted serves = made_serves stage a b ending wanted serves
@@ -119,7 +120,7 @@ module _ {T : Type 0} (entry_of : T → Entry) (device : BlockDevice) (races : B
       ∙ ap made_as lands.back.landed ∙ made_landed a.service.ring (entry_of lands.here.flight.token)
 
   made_told : (said : HostEvent) (on_hold : Bool) (a b : Place Queue T) (ending : LookEnding) (wanted : Bool)
-      → QueueTold racing_queue entry_of device races limits stable said on_hold a b ending wanted
+      → QueueTold racing_queue entry_of IsTaken device races limits stable said on_hold a b ending wanted
       → Made a.service b.service
   made_told (Complete tag verdict) on_hold a b ending wanted told =
       made_unless on_hold Again told.landed b ending told.asked told.looks
@@ -130,15 +131,15 @@ module _ {T : Type 0} (entry_of : T → Entry) (device : BlockDevice) (races : B
 
 -- ---- the disk
 
-module _ {T : Type 0} (entry_of : T → Entry) (races : Bool) (limits : LookLimits) (stable : Bool)
+module _ {T : Type 0} (entry_of : T → Entry) (IsTaken : Queue → T → Type 0) (races : Bool) (limits : LookLimits) (stable : Bool)
     (disk disk' : RacingHostedDisk T) (old new : Sightings) (queue last : Queue) (ending : LookEnding) (wanted : Bool) where
-  pub disk_made : ServesDisk racing_queue entry_of races limits stable disk old new queue last disk' ending wanted
+  pub disk_made : ServesDisk racing_queue entry_of IsTaken races limits stable disk old new queue last disk' ending wanted
       → made_as last ≡ made_as queue
   disk_made serves =
-      made_unless entry_of disk.device races limits stable disk.on_hold First _ _ ending wanted serves.looks
+      made_unless entry_of IsTaken disk.device races limits stable disk.on_hold First _ _ ending wanted serves.looks
 
   pub told_made : (said : HostEvent)
-      → DoesAsTold racing_queue entry_of races limits stable said disk old new queue last disk' ending wanted
+      → DoesAsTold racing_queue entry_of IsTaken races limits stable said disk old new queue last disk' ending wanted
       → made_as last ≡ made_as queue
   told_made said does =
-      made_told entry_of disk.device races limits stable said disk.on_hold _ _ ending wanted does.queue
+      made_told entry_of IsTaken disk.device races limits stable said disk.on_hold _ _ ending wanted does.queue

@@ -6,7 +6,7 @@ use Rattle.chain.specs.declared.fault.Fault.{Fault}
 use Rattle.negotiation.specs.Negotiation.{is_live}
 use Rattle.mmio_window.specs.declared.queue.Queue.{Queue}
 use Rattle.mmio_window.specs.declared.queue.Token.{Token}
-use Rattle.mmio_window.specs.Queue.{Fits, ahead_of, entry_of, made_as}
+use Rattle.mmio_window.specs.Queue.{Fits, IsTaken, ahead_of, entry_of, made_as}
 use Rattle.mmio_window.specs.Serving.{after_service, ending_of}
 use Rattle.mmio_window.specs.Soundness.{IsSound}
 use Rattle.mmio_window.specs.Window.{WindowState, queue_at, ring_at, with_ring}
@@ -54,13 +54,13 @@ module _ (races : Bool) (limits : LookLimits) (stable : Bool) (old new : Sightin
       (keeps (serving_keeps_sound m n w 0 queue last sound.window same (sym is) kept))
 
   pub looked_sound :
-      ServesDisk racing_queue entry_of races limits stable disk old new first served disk' ending wanted
+      ServesDisk racing_queue entry_of IsTaken races limits stable disk old new first served disk' ending wanted
       → IsSoundBlock n (block_of v disk')
   looked_sound serves =
-      as_served (disk_made entry_of races limits stable disk disk' old new first served ending wanted serves)
+      as_served (disk_made entry_of IsTaken races limits stable disk disk' old new first served ending wanted serves)
 
   told_sound_by : (said : HostEvent)
-      → DoesAsTold racing_queue entry_of races limits stable said disk old new first served disk' ending wanted
+      → DoesAsTold racing_queue entry_of IsTaken races limits stable said disk old new first served disk' ending wanted
       → IsSoundBlock n (block_of v disk') → (IsSound n v → IsSound n w') → w' ≡ reset_by said v
       → IsSoundBlock n (block_of w' disk')
   told_sound_by (Complete tag verdict) does at window reset = rw reset at
@@ -70,11 +70,11 @@ module _ (races : Bool) (limits : LookLimits) (stable : Bool) (old new : Sightin
   told_sound_by Release does at window reset = rw reset at
 
   pub told_sound : (said : HostEvent)
-      → DoesAsTold racing_queue entry_of races limits stable said disk old new first served disk' ending wanted
+      → DoesAsTold racing_queue entry_of IsTaken races limits stable said disk old new first served disk' ending wanted
       → (IsSound n v → IsSound n w') → w' ≡ reset_by said v → IsSoundBlock n (block_of w' disk')
   told_sound said does window reset =
       told_sound_by said does
-      (as_served (told_made entry_of races limits stable disk disk' old new first served ending wanted said does)) window
+      (as_served (told_made entry_of IsTaken races limits stable disk disk' old new first served ending wanted said does)) window
       reset
 
 -- without a queue that may be served

@@ -11,7 +11,7 @@ use Rattle.mmio_window.specs.declared.device_kind.DeviceKind.TheVariants.{Block}
 use Rattle.mmio_window.specs.declared.fault_note.QueueFault.{QueueFault}
 use Rattle.mmio_window.specs.declared.queue.Queue.{Queue}
 use Rattle.mmio_window.specs.declared.queue.Token.{Token}
-use Rattle.mmio_window.specs.Queue.{Fits, ahead_of, entry_of}
+use Rattle.mmio_window.specs.Queue.{Fits, IsTaken, ahead_of, entry_of}
 use Rattle.mmio_window.specs.Reading.{read_value}
 use Rattle.mmio_window.specs.Ready.{may_stop_queues}
 use Rattle.mmio_window.specs.Serving.{after_service, ending_of}
@@ -95,7 +95,7 @@ pub record ServesBlock (races : Bool) (limits : LookLimits) (queue : Queue) (old
   pub last : Queue
   pub ending : LookEnding
   pub wanted : Bool
-  pub disk : ServesDisk racing_queue entry_of races limits (wants_stable before.window) before.disk old new queue last
+  pub disk : ServesDisk racing_queue entry_of IsTaken races limits (wants_stable before.window) before.disk old new queue last
       after.disk ending wanted
   pub window : after.window ≡ showing before.window last ending wanted
   pub progress_is : progress ≡ progress_of ending
@@ -148,7 +148,7 @@ pub record TellsBlock (said : HostEvent) (races : Bool) (limits : LookLimits) (q
   pub last : Queue
   pub ending : LookEnding
   pub wanted : Bool
-  pub disk : DoesAsTold racing_queue entry_of races limits (wants_stable before.window) said before.disk old new queue last
+  pub disk : DoesAsTold racing_queue entry_of IsTaken races limits (wants_stable before.window) said before.disk old new queue last
       after.disk ending wanted
   pub window : after.window ≡ reset_by said (showing before.window last ending wanted)
   pub progress_is : progress ≡ progress_of ending

@@ -4,7 +4,7 @@ ghost use Rattle.std.specs.Prelude.{◌≡◌, ℕ, Bool, None, Some, false, get
 ghost use Rattle.guest_memory.specs.Memory.{Memory, SameRange};
 ghost use Rattle.mmio_window.specs.declared.queue.Queue.{Queue};
 ghost use Rattle.mmio_window.specs.declared.queue.Token.{Token};
-ghost use Rattle.mmio_window.specs.Queue.{entry_of, queue_kind};
+ghost use Rattle.mmio_window.specs.Queue.{IsTaken, entry_of, queue_kind};
 ghost use Rattle.shared_memory.specs.Sightings.{memory};
 ghost use Rattle.block_device.specs.declared.device.BlockDevice.{BlockDevice};
 ghost use Rattle.block_device.specs.declared.operation.Operation.{Operation};
@@ -37,12 +37,12 @@ pub fn what_the_host_is_told_lies_inside()
 /// where its driver leaves the chain alone while it is taken, whatever else the guest writes (`alone`).
 pub fn what_the_host_is_told_is_of_one_moment()
     ensures still { (device : BlockDevice) (stage : Stage) (most : ℕ) (stable wanted : Bool) (here : InFlight Token)
-        (a b : Standing Queue (Unit {0})) (asks : AsksIn racing_queue entry_of device false stage most stable here a b wanted)
+        (a b : Standing Queue (Unit {0})) (asks : AsksIn racing_queue entry_of IsTaken device false stage most stable here a b wanted)
         → IsToldOf queue_kind entry_of device stable (memory asks.finds.at.sightings) asks.finds.at.ring asks.buffers here }
     ensures alone { (device : BlockDevice) (races : Bool) (stage : Stage) (most : ℕ) (stable wanted : Bool) (here : InFlight Token)
-        (a b : Standing Queue (Unit {0})) (asks : AsksIn racing_queue entry_of device races stage most stable here a b wanted)
-        → IsAskedAlone racing_queue entry_of device races stage most stable here a b wanted asks LeavesQueue
+        (a b : Standing Queue (Unit {0})) (asks : AsksIn racing_queue entry_of IsTaken device races stage most stable here a b wanted)
+        → IsAskedAlone racing_queue entry_of IsTaken device races stage most stable here a b wanted asks LeavesQueue
         → IsToldOf queue_kind entry_of device stable
-        (moment_asked racing_queue entry_of device races stage most stable here a b wanted asks) asks.finds.at.ring asks.buffers
+        (moment_asked racing_queue entry_of IsTaken device races stage most stable here a b wanted asks) asks.finds.at.ring asks.buffers
         here }
 {}

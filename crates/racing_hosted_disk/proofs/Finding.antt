@@ -17,17 +17,18 @@ use Rattle.racing_hosted_disk.specs.Looking.{FindsIn}
 use Rattle.racing_hosted_disk.specs.Tags.{TagIsHeld, in_room, token_in}
 use Rattle.racing_hosted_disk.proofs.Holding.{some_writable}
 
-module _ {Ring Token : Type 0} (kind : RacingKind Ring) (entry_of : Token → Entry) (device : BlockDevice) (races : Bool)
+module _ {Ring Token : Type 0} (kind : RacingKind Ring) (entry_of : Token → Entry)
+    (IsTaken : Ring → Token → Type 0) (device : BlockDevice) (races : Bool)
     (stage : Stage) (most : ℕ) (stable : Bool) (a b : Standing Ring (Unit {0})) (buffers : List Buffer) (runs : List Segment)
     (wanted : Bool) where
   -- the chain that was found asks by this flight
   abbrev Asks : Flight Token → Type 0
-  Asks flight = FindsOneThatAsks kind device races stage most stable a b (entry_of flight.token) flight.operation
+  Asks flight = FindsOneThatAsks kind device races stage most (λ ring. IsTaken ring flight.token) stable a b (entry_of flight.token) flight.operation
       flight.status flight.writable buffers runs wanted
 
   pub found_in : (flight : Option (Flight Token)) → IfSome flight Asks
       → IfNone flight (FindsOneToAnswer kind device races stage most a b wanted)
-      → FindsIn kind entry_of device races stage most stable (in_room flight runs) a b wanted
+      → FindsIn kind entry_of IsTaken device races stage most stable (in_room flight runs) a b wanted
   found_in None asks answers = answers
   found_in (Some flight) asks answers = record { buffers = buffers; finds = asks }
 

@@ -88,11 +88,11 @@ module _ {Ring Token : Type 0} (kind : RacingKind Ring) (entry_of : Token → En
     pub ahead : ahead_of b.ring ≡ ahead_of a.ring + places
     pub range : SameRange (memory a.sightings) (memory b.sightings)
 
-  pub asked_launches : (stable : Bool) (a b : At) (t : Token) (operation : Operation) (status writable : ℕ)
+  pub asked_launches : (Takes : Ring → Type 0) (stable : Bool) (a b : At) (t : Token) (operation : Operation) (status writable : ℕ)
       (buffers : List Buffer) (runs : List Segment) (wanted : Bool)
-      → FindsOneThatAsks kind device races stage most stable a b (entry_of t) operation status writable buffers runs wanted
+      → FindsOneThatAsks kind device races stage most Takes stable a b (entry_of t) operation status writable buffers runs wanted
       → Fits b.ring t → Launches a b (entry_of t).places
-  asked_launches stable a b t operation status writable buffers runs wanted finds f =
+  asked_launches Takes stable a b t operation status writable buffers runs wanted finds f =
       let at = finds.at in
       let before = up_to a at buffers (entry_of t) finds.request finds.kept wanted finds.finds in
       let ring : b.ring ≡ kind.still.launched at.ring (entry_of t) = ap (λ (x : At). x.ring) finds.stands in
@@ -110,13 +110,13 @@ module _ {Ring Token : Type 0} (kind : RacingKind Ring) (entry_of : Token → En
 
   -- ---- either
 
-  pub found_launches : (stable : Bool) (asks : Option (InFlight Token)) (a b : At) (wanted : Bool)
-      → FindsIn kind entry_of device races stage most stable asks a b wanted → TagFits Fits b.ring (token_in asks)
+  pub found_launches : (IsTaken : Ring → Token → Type 0) (stable : Bool) (asks : Option (InFlight Token)) (a b : At) (wanted : Bool)
+      → FindsIn kind entry_of IsTaken device races stage most stable asks a b wanted → TagFits Fits b.ring (token_in asks)
       → Launches a b (tag_places entry_of (token_in asks))
-  found_launches stable (Some here) a b wanted finds f =
-      asked_launches stable a b here.flight.token here.flight.operation here.flight.status here.flight.writable
+  found_launches IsTaken stable (Some here) a b wanted finds f =
+      asked_launches (λ ring. IsTaken ring here.flight.token) stable a b here.flight.token here.flight.operation here.flight.status here.flight.writable
       finds.buffers here.runs wanted finds.finds f
-  found_launches stable None a b wanted finds f =
+  found_launches IsTaken stable None a b wanted finds f =
       let one = answered_keeps a b wanted finds in
       let same = one.stays.ahead in
       record {
@@ -145,16 +145,16 @@ module _ {Ring Token : Type 0} (kind : RacingKind Ring) (entry_of : Token → En
       by (Some t) f = launches.fits t f
 
   -- of the tags, of which the lowest free one is filled
-  pub taken_ahead : (stable : Bool) (asks : Option (InFlight Token)) (a b : At) (wanted : Bool)
+  pub taken_ahead : (IsTaken : Ring → Token → Type 0) (stable : Bool) (asks : Option (InFlight Token)) (a b : At) (wanted : Bool)
       (tags : List (Option (InFlight Token))) (i : ℕ) → free_tag tags ≡ Some i
-      → FindsIn kind entry_of device races stage most stable asks a b wanted → TagFits Fits b.ring (token_in asks)
+      → FindsIn kind entry_of IsTaken device races stage most stable asks a b wanted → TagFits Fits b.ring (token_in asks)
       → AreAhead entry_of Fits ahead_of a.ring (tokens_of tags)
       → AreAhead entry_of Fits ahead_of b.ring (tokens_of (set tags i asks))
-  taken_ahead stable asks a b wanted tags i lowest finds fits are =
+  taken_ahead IsTaken stable asks a b wanted tags i lowest finds fits are =
       let free = is_free tags i lowest in
       let size = tokens_size tags in
       let there : i < length (tokens_of tags) = omega (arith, size, free.there) in
       let none : get_or (tokens_of tags) i None ≡ None = token_at tags i free.there ∙ ap token_in free.free in
       rw (tokens_set tags i asks)
-      (ahead_found a b (tokens_of tags) i (token_in asks) there none (found_launches stable asks a b wanted finds
+      (ahead_found a b (tokens_of tags) i (token_in asks) there none (found_launches IsTaken stable asks a b wanted finds
       fits) fits are)

@@ -17,13 +17,13 @@ use Rattle.racing_hosted_disk.specs.declared.look.LookLimits.{LookLimits}
 use Rattle.racing_hosted_disk.specs.Looking.{AreLooks, HasLooked, Look, LooksOn, Place, any_wanted, place_at, stage_behind}
 use Rattle.racing_hosted_disk.specs.Tags.{InFlight, free_tag}
 
-module _ {Ring T : Type 0} (queues : RacingKind Ring) (entry_of : T → Entry) (device : BlockDevice) (races : Bool)
-    (limits : LookLimits) (stable : Bool) where
+module _ {Ring T : Type 0} (queues : RacingKind Ring) (entry_of : T → Entry) (IsTaken : Ring → T → Type 0)
+    (device : BlockDevice) (races : Bool) (limits : LookLimits) (stable : Bool) where
   -- So many looks have each found a request, from this stage on, and the next one begins there.
   pub record IsLooking (stage here : Stage) (start now : Place Ring T) (count : ℕ) (wanted : Bool) : Type 0 where
     pub looks : List (Look Ring T)
     pub many : length looks ≡ count
-    pub are : AreLooks queues entry_of device races limits stable stage start looks now
+    pub are : AreLooks queues entry_of IsTaken device races limits stable stage start looks now
     pub here_is : here ≡ stage_behind stage looks
     pub wanted_is : wanted ≡ any_wanted looks
 
@@ -31,12 +31,12 @@ module _ {Ring T : Type 0} (queues : RacingKind Ring) (entry_of : T → Entry) (
   looks_first stage start = record { looks = []; many = refl; are = refl; here_is = refl; wanted_is = refl }
 
   push : (stage : Stage) (a b : Place Ring T) (looks : List (Look Ring T)) (l : Look Ring T)
-      → AreLooks queues entry_of device races limits stable stage a looks b
-      → LooksOn queues entry_of device races (stage_behind stage looks) limits.rounds stable l.asks b l.after l.wanted
-      → AreLooks queues entry_of device races limits stable stage a (looks ++ l ∷ []) l.after
+      → AreLooks queues entry_of IsTaken device races limits stable stage a looks b
+      → LooksOn queues entry_of IsTaken device races (stage_behind stage looks) limits.rounds stable l.asks b l.after l.wanted
+      → AreLooks queues entry_of IsTaken device races limits stable stage a (looks ++ l ∷ []) l.after
   push stage a b [] l are on =
-      let one : LooksOn queues entry_of device races stage limits.rounds stable l.asks a l.after l.wanted =
-      subst (λ (x : Place Ring T). LooksOn queues entry_of device races stage limits.rounds stable l.asks x l.after
+      let one : LooksOn queues entry_of IsTaken device races stage limits.rounds stable l.asks a l.after l.wanted =
+      subst (λ (x : Place Ring T). LooksOn queues entry_of IsTaken device races stage limits.rounds stable l.asks x l.after
       l.wanted) are on in (one, refl)
   push stage a b (x ∷ []) l are on = (are.0, push Next x.after b [] l are.1 on)
   push stage a b (x ∷ y ∷ looks) l are on = (are.0, push Next x.after b (y ∷ looks) l are.1 on)
@@ -60,7 +60,7 @@ module _ {Ring T : Type 0} (queues : RacingKind Ring) (entry_of : T → Entry) (
 
   pub looks_on : (stage here : Stage) (start now after : Place Ring T) (count : ℕ) (wanted more asked : Bool)
       (asks : Option (InFlight T)) → IsLooking stage here start now count wanted
-      → LooksOn queues entry_of device races here limits.rounds stable asks now after asked
+      → LooksOn queues entry_of IsTaken device races here limits.rounds stable asks now after asked
       → more ≡ (wanted || asked) → IsLooking stage Next start after (count + 1) more
   looks_on stage here start now after count wanted more asked asks looking on is =
       let l : Look Ring T = record { asks = asks; wanted = asked; after = after } in
@@ -76,7 +76,7 @@ module _ {Ring T : Type 0} (queues : RacingKind Ring) (entry_of : T → Entry) (
       (tags : List (Option (InFlight T))) (count : ℕ) (wanted : Bool)
       (looking : IsLooking stage here start (place_at now ring left tags) count wanted) where
     pub looks_full : count ≤ limits.looks → free_tag tags ≡ None
-        → HasLooked queues entry_of device races limits stable stage start now ring tags Full wanted
+        → HasLooked queues entry_of IsTaken device races limits stable stage start now ring tags Full wanted
     looks_full few full = record {
       left = left;
       serves = record {
@@ -91,7 +91,7 @@ module _ {Ring T : Type 0} (queues : RacingKind Ring) (entry_of : T → Entry) (
     pub looks_limited : (new : Sightings) (after : Ring) (more asked : Bool) → count ≡ limits.looks
         → IsClosing queues (hosted_device device) races (place_at now ring left tags).service
         (place_at new after left tags).service asked → more ≡ (wanted || asked)
-        → HasLooked queues entry_of device races limits stable stage start new after tags Limited more
+        → HasLooked queues entry_of IsTaken device races limits stable stage start new after tags Limited more
     looks_limited new after more asked all closes is = record {
       left = left;
       serves = record {
@@ -114,7 +114,7 @@ module _ {Ring T : Type 0} (queues : RacingKind Ring) (entry_of : T → Entry) (
         → IsRacingService queues (hosted_device device) races here limits.rounds (place_at now ring left tags).service
         (place_at new after rest same).service ending asked
         → same ≡ tags → more ≡ (wanted || asked)
-        → HasLooked queues entry_of device races limits stable stage start new after same (Served ending) more
+        → HasLooked queues entry_of IsTaken device races limits stable stage start new after same (Served ending) more
     looks_served i new after rest same ending more asked few free service unchanged is = record {
       left = rest;
       serves = record {

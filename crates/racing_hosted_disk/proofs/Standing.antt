@@ -31,10 +31,10 @@ use Rattle.racing_hosted_disk.specs.Told.{Lands}
 
 module _ {Ring T : Type 0} (kind : RacingKind Ring) (IsSound : Memory → Ring → Type 0) (stands : StandsStill kind IsSound)
     (entry_of : T → Entry) (device : BlockDevice) (stage : Stage) (most : ℕ) (stable : Bool) where
-  pub told_of : (here : InFlight T) (a b : Standing Ring (Unit {0})) (wanted : Bool)
-      (asks : AsksIn kind entry_of device false stage most stable here a b wanted)
+  pub told_of : (IsTaken : Ring → T → Type 0) (here : InFlight T) (a b : Standing Ring (Unit {0})) (wanted : Bool)
+      (asks : AsksIn kind entry_of IsTaken device false stage most stable here a b wanted)
       → IsToldOf kind.still entry_of device stable (memory asks.finds.at.sightings) asks.finds.at.ring asks.buffers here
-  told_of here a b wanted asks =
+  told_of IsTaken here a b wanted asks =
       let finds = asks.finds in
       let up = finds.finds.service.leaves.serves in
       let one = up.leaves in
@@ -101,12 +101,13 @@ module _ {Ring T : Type 0} (kind : RacingKind Ring) (IsSound : Memory → Ring �
 module _ {Ring T : Type 0} {kind : RacingKind Ring}
     {Leaves : (old new : Sightings) (ring : Ring) (buffers : List Buffer) (entry : Entry)
     → kind.IsOffered old new ring buffers entry → Type 0} (laws : LeftLaws kind Leaves)
-    (entry_of : T → Entry) (device : BlockDevice) (races : Bool) (stage : Stage) (most : ℕ) (stable : Bool) where
+    (entry_of : T → Entry) (IsTaken : Ring → T → Type 0) (device : BlockDevice) (races : Bool) (stage : Stage) (most : ℕ)
+    (stable : Bool) where
   pub told_at_once : (here : InFlight T) (a b : Standing Ring (Unit {0})) (wanted : Bool)
-      (asks : AsksIn kind entry_of device races stage most stable here a b wanted)
-      → IsAskedAlone kind entry_of device races stage most stable here a b wanted asks Leaves
+      (asks : AsksIn kind entry_of IsTaken device races stage most stable here a b wanted)
+      → IsAskedAlone kind entry_of IsTaken device races stage most stable here a b wanted asks Leaves
       → IsToldOf kind.still entry_of device stable
-      (moment_asked kind entry_of device races stage most stable here a b wanted asks) asks.finds.at.ring asks.buffers here
+      (moment_asked kind entry_of IsTaken device races stage most stable here a b wanted asks) asks.finds.at.ring asks.buffers here
   told_at_once here a b wanted asks alone =
       let finds = asks.finds in
       let up = finds.finds.service.leaves.serves in

@@ -70,11 +70,12 @@ module _ {Ring Token : Type 0} (entry_of : Token → Entry) (Fits : Ring → Tok
   dropped_holds m queue disk new None gives kept held = rw kept held
   dropped_holds m queue disk new (Some served) gives kept held = freed_holds m queue disk new gives
 
-module _ {Ring T : Type 0} (queues : RacingKind Ring) (entry_of : T → Entry) (races : Bool) (limits : LookLimits)
+module _ {Ring T : Type 0} (queues : RacingKind Ring) (entry_of : T → Entry) (IsTaken : Ring → T → Type 0)
+    (races : Bool) (limits : LookLimits)
     (stable : Bool) where
   -- a queue on hold is left as it is
   pub serves_none : (stage : Stage) (disk : RacingHostedDisk T) (s : Sightings) (queue : Ring) → disk.on_hold ≡ true
-      → LooksAtQueue queues entry_of races limits stable stage disk s s queue queue disk Idle false
+      → LooksAtQueue queues entry_of IsTaken races limits stable stage disk s s queue queue disk Idle false
   serves_none stage disk s queue on_hold = record {
     left = limits.budget;
     looks = rw on_hold (record { stands = refl; ending_is = refl; unwanted = refl });
@@ -84,9 +85,9 @@ module _ {Ring T : Type 0} (queues : RacingKind Ring) (entry_of : T → Entry) (
   -- and any other is looked at
   pub serves_looks : (stage : Stage) (disk new : RacingHostedDisk T) (s t : Sightings) (queue after : Ring) (ending : LookEnding)
       (wanted : Bool) → disk.on_hold ≡ false → new ≡ record disk { tags = new.tags }
-      → HasLooked queues entry_of disk.device races limits stable stage (place_at s queue limits.budget disk.tags) t after
+      → HasLooked queues entry_of IsTaken disk.device races limits stable stage (place_at s queue limits.budget disk.tags) t after
       new.tags ending wanted
-      → LooksAtQueue queues entry_of races limits stable stage disk s t queue after new ending wanted
+      → LooksAtQueue queues entry_of IsTaken races limits stable stage disk s t queue after new ending wanted
   serves_looks stage disk new s t queue after ending wanted on_hold rest looked = record {
     left = looked.left;
     looks = rw on_hold looked.serves;
@@ -95,9 +96,9 @@ module _ {Ring T : Type 0} (queues : RacingKind Ring) (entry_of : T → Entry) (
 
   pub released : (disk new : RacingHostedDisk T) (s t : Sightings) (queue after : Ring) (ending : LookEnding)
       (wanted : Bool) → new ≡ record disk { tags = new.tags; on_hold = false }
-      → HasLooked queues entry_of disk.device races limits stable First (place_at s queue limits.budget disk.tags) t after
+      → HasLooked queues entry_of IsTaken disk.device races limits stable First (place_at s queue limits.budget disk.tags) t after
       new.tags ending wanted
-      → DoesAsTold queues entry_of races limits stable Release disk s t queue after new ending wanted
+      → DoesAsTold queues entry_of IsTaken races limits stable Release disk s t queue after new ending wanted
   released disk new s t queue after ending wanted rest looked = record {
     left = looked.left;
     queue = looked.serves;
@@ -109,8 +110,8 @@ module _ {Ring T : Type 0} (queues : RacingKind Ring) (entry_of : T → Entry) (
       → landed ≡ record disk { tags = landed.tags }
       → Lands queues entry_of disk.device races tag verdict (place_at old before limits.budget disk.tags)
       (place_at mid between limits.budget landed.tags) first
-      → LooksAtQueue queues entry_of races limits stable Again landed mid last between after new ending asked
-      → DoesAsTold queues entry_of races limits stable (Complete tag verdict) disk old last before after new ending
+      → LooksAtQueue queues entry_of IsTaken races limits stable Again landed mid last between after new ending asked
+      → DoesAsTold queues entry_of IsTaken races limits stable (Complete tag verdict) disk old last before after new ending
       (first || asked)
   completed tag verdict disk landed new old mid last before between after ending first asked rest lands serves =
       let device : landed.device ≡ disk.device = ap (λ (d : RacingHostedDisk T). d.device) rest in
@@ -131,7 +132,7 @@ module _ {Ring T : Type 0} (queues : RacingKind Ring) (entry_of : T → Entry) (
   pub dropped : (result : Option outcome.Served) (disk new : RacingHostedDisk T) (s : Sightings) (queue : Ring)
       → IfSome result (λ served. served ≡ idle)
       → IfSome result (λ served. new ≡ record disk { tags = freed disk.tags })
-      → IfSome result (λ served. DoesAsTold queues entry_of races limits stable Drop disk s s queue queue new
+      → IfSome result (λ served. DoesAsTold queues entry_of IsTaken races limits stable Drop disk s s queue queue new
       served.ending served.wanted)
   dropped None disk new s queue idles gives = tt
   dropped (Some served) disk new s queue idles gives =
@@ -143,7 +144,7 @@ module _ {Ring T : Type 0} (queues : RacingKind Ring) (entry_of : T → Entry) (
 
   pub held_back : (result : Option outcome.Served) (disk new : RacingHostedDisk T) (s : Sightings) (queue : Ring)
       → IfSome result (λ served. served ≡ idle) → new ≡ record disk { on_hold = true }
-      → IfSome result (λ served. DoesAsTold queues entry_of races limits stable Hold disk s s queue queue new
+      → IfSome result (λ served. DoesAsTold queues entry_of IsTaken races limits stable Hold disk s s queue queue new
       served.ending served.wanted)
   held_back None disk new s queue idles holds = tt
   held_back (Some served) disk new s queue idles holds =

@@ -4,6 +4,7 @@ use Rattle.guest_memory.specs.Memory.{Memory, put}
 use Rattle.chain.specs.declared.segment.Buffer.{Buffer}
 use Rattle.chain.specs.declared.segment.Segment.{Segment}
 use Rattle.chain.specs.Service.{Entry, Kind}
+use Rattle.chain.specs.declared.state.RingState.{RingState}
 use Rattle.split_ring.specs.Kind as split
 use Rattle.split_ring.specs.declared.ring.Token as split_tokens
 use Rattle.packed_ring.specs.Kind as packed
@@ -36,6 +37,12 @@ split_entry token = split.entry_of token.head
 abbrev pub packed_entry : PackedToken → Entry
 packed_entry token = packed.entry_of token.id token.length
 
+abbrev pub split_taken : RingState → SplitToken → Type 0
+split_taken ring token = split.IsTaken ring token
+
+abbrev pub packed_taken : RingState → PackedToken → Type 0
+packed_taken ring token = packed.IsTaken ring token
+
 -- The chain of these buffers is on offer in this memory, and of it the host is told what block_device says of a guest that
 -- stands still.
 pub record IsToldOf {Ring T : Type 0} (kind : Kind Ring) (entry_of : T → Entry) (device : BlockDevice) (stable : Bool)
@@ -66,9 +73,10 @@ pub record LandsAsOne {Ring T : Type 0} (kind : Kind Ring) (entry_of : T → Ent
 
 -- ---- a chain that its driver leaves alone while it is taken
 
-module _ {Ring T : Type 0} (kind : RacingKind Ring) (entry_of : T → Entry) (device : BlockDevice) (races : Bool) (stage : Stage)
-    (most : ℕ) (stable : Bool) (here : InFlight T) (a b : Standing Ring (Unit {0})) (wanted : Bool)
-    (asks : AsksIn kind entry_of device races stage most stable here a b wanted) where
+module _ {Ring T : Type 0} (kind : RacingKind Ring) (entry_of : T → Entry) (IsTaken : Ring → T → Type 0)
+    (device : BlockDevice) (races : Bool) (stage : Stage) (most : ℕ) (stable : Bool) (here : InFlight T)
+    (a b : Standing Ring (Unit {0})) (wanted : Bool)
+    (asks : AsksIn kind entry_of IsTaken device races stage most stable here a b wanted) where
   -- what is taken of the chain stands as it was read, and each readable byte stays while it is judged
   abbrev pub IsAskedAlone :
       ((old new : Sightings) (ring : Ring) (buffers : List Buffer) (entry : Entry)

@@ -48,13 +48,13 @@ abbrev pub stage_behind : {Ring T : Type 0} → Stage → List (Look Ring T) →
 stage_behind stage [] = stage
 stage_behind stage (l ∷ looks) = Next
 
-module _ {Ring T : Type 0} (queues : RacingKind Ring) (entry_of : T → Entry) (device : BlockDevice) (races : Bool)
-    (stage : Stage) (most : ℕ) (stable : Bool) where
-  -- A chain that asks is in flight.
+module _ {Ring T : Type 0} (queues : RacingKind Ring) (entry_of : T → Entry) (IsTaken : Ring → T → Type 0)
+    (device : BlockDevice) (races : Bool) (stage : Stage) (most : ℕ) (stable : Bool) where
+  -- A chain that asks is in flight, by a token of the ring as it was taken from it.
   pub record AsksIn (here : InFlight T) (a b : Standing Ring (Unit {0})) (wanted : Bool) : Type 0 where
     pub buffers : List Buffer
-    pub finds : FindsOneThatAsks queues device races stage most stable a b (entry_of here.flight.token)
-        here.flight.operation here.flight.status here.flight.writable buffers here.runs wanted
+    pub finds : FindsOneThatAsks queues device races stage most (λ ring. IsTaken ring here.flight.token) stable a b
+        (entry_of here.flight.token) here.flight.operation here.flight.status here.flight.writable buffers here.runs wanted
 
   -- or one that asks for nothing was answered
   abbrev pub FindsIn : Option (InFlight T) → Standing Ring (Unit {0}) → Standing Ring (Unit {0}) → Bool → Type 0
@@ -69,13 +69,13 @@ module _ {Ring T : Type 0} (queues : RacingKind Ring) (entry_of : T → Entry) (
     pub finds : FindsIn asks a.service b.service wanted
     pub tags : b.tags ≡ set a.tags tag asks
 
-module _ {Ring T : Type 0} (queues : RacingKind Ring) (entry_of : T → Entry) (device : BlockDevice) (races : Bool)
-    (limits : LookLimits) (stable : Bool) where
+module _ {Ring T : Type 0} (queues : RacingKind Ring) (entry_of : T → Entry) (IsTaken : Ring → T → Type 0)
+    (device : BlockDevice) (races : Bool) (limits : LookLimits) (stable : Bool) where
   -- looks one after another, each behind the first in the queue as it stands open
   abbrev pub AreLooks : Stage → Place Ring T → List (Look Ring T) → Place Ring T → Type 0
   AreLooks stage a [] b = b ≡ a
   AreLooks stage a (l ∷ looks) b =
-      LooksOn queues entry_of device races stage limits.rounds stable l.asks a l.after l.wanted
+      LooksOn queues entry_of IsTaken device races stage limits.rounds stable l.asks a l.after l.wanted
       × AreLooks Next l.after looks b
 
   -- A further look finds no request, and the service ends so; a tag is free then.
@@ -135,18 +135,20 @@ module _ {Ring T : Type 0} (queues : RacingKind Ring) (entry_of : T → Entry) (
   LooksUnless false stage a b ending wanted = ServesLooks stage a b ending wanted
 
 -- A disk looks at its queue, from this stage on.
-pub record LooksAtQueue {Ring T : Type 0} (queues : RacingKind Ring) (entry_of : T → Entry) (races : Bool)
-    (limits : LookLimits) (stable : Bool) (stage : Stage) (disk : RacingHostedDisk T) (old new : Sightings)
-    (before after : Ring) (disk' : RacingHostedDisk T) (ending : LookEnding) (wanted : Bool) : Type 0 where
+pub record LooksAtQueue {Ring T : Type 0} (queues : RacingKind Ring) (entry_of : T → Entry)
+    (IsTaken : Ring → T → Type 0) (races : Bool) (limits : LookLimits) (stable : Bool) (stage : Stage)
+    (disk : RacingHostedDisk T) (old new : Sightings) (before after : Ring) (disk' : RacingHostedDisk T)
+    (ending : LookEnding) (wanted : Bool) : Type 0 where
   pub left : Budget
-  pub looks : LooksUnless queues entry_of disk.device races limits stable disk.on_hold stage
+  pub looks : LooksUnless queues entry_of IsTaken disk.device races limits stable disk.on_hold stage
       (place_at old before limits.budget disk.tags) (place_at new after left disk'.tags) ending wanted
   pub is : disk' ≡ record disk { tags = disk'.tags }
 
 -- The queue of a disk was notified.
-abbrev pub ServesDisk : {Ring T : Type 0} → RacingKind Ring → (T → Entry) → Bool → LookLimits → Bool → RacingHostedDisk T
-    → Sightings → Sightings → Ring → Ring → RacingHostedDisk T → LookEnding → Bool → Type 0
-ServesDisk queues entry_of races limits stable = LooksAtQueue queues entry_of races limits stable First
+abbrev pub ServesDisk : {Ring T : Type 0} → RacingKind Ring → (T → Entry) → (Ring → T → Type 0) → Bool → LookLimits → Bool
+    → RacingHostedDisk T → Sightings → Sightings → Ring → Ring → RacingHostedDisk T → LookEnding → Bool → Type 0
+ServesDisk queues entry_of IsTaken races limits stable =
+    LooksAtQueue queues entry_of IsTaken races limits stable First
 
 -- whether the queue is to be served once more
 abbrev pub progress_of : LookEnding → Progress

@@ -45,8 +45,8 @@ module _ {Ring T : Type 0} (queues : RacingKind Ring) (entry_of : T → Entry) (
     pub closes : IsClosing queues (hosted_device device) races (standing_at given behind tt a.service.left) b.service wanted
     pub tags : b.tags ≡ set a.tags tag None
 
-module _ {Ring T : Type 0} (queues : RacingKind Ring) (entry_of : T → Entry) (device : BlockDevice) (races : Bool)
-    (limits : LookLimits) (stable : Bool) where
+module _ {Ring T : Type 0} (queues : RacingKind Ring) (entry_of : T → Entry) (IsTaken : Ring → T → Type 0)
+    (device : BlockDevice) (races : Bool) (limits : LookLimits) (stable : Bool) where
   -- and the queue was looked at behind those closing writes, unless it is on hold
   pub record Completes (tag : ℕ) (verdict : Verdict) (on_hold : Bool) (a b : Place Ring T) (ending : LookEnding)
       (wanted : Bool) : Type 0 where
@@ -54,23 +54,25 @@ module _ {Ring T : Type 0} (queues : RacingKind Ring) (entry_of : T → Entry) (
     pub before : Bool
     pub asked : Bool
     pub lands : Lands queues entry_of device races tag verdict a landed before
-    pub looks : LooksUnless queues entry_of device races limits stable on_hold Again landed b ending asked
+    pub looks : LooksUnless queues entry_of IsTaken device races limits stable on_hold Again landed b ending asked
     pub wanted_is : wanted ≡ (before || asked)
 
   -- what becomes of the queue and of the tags, by what the host says
   abbrev pub QueueTold : HostEvent → Bool → Place Ring T → Place Ring T → LookEnding → Bool → Type 0
   QueueTold (Complete tag verdict) on_hold a b ending wanted = Completes tag verdict on_hold a b ending wanted
   QueueTold Drop on_hold a b ending wanted =
-      StaysIdle queues entry_of device races limits stable (record a { tags = freed a.tags }) b ending wanted
-  QueueTold Hold on_hold a b ending wanted = StaysIdle queues entry_of device races limits stable a b ending wanted
-  QueueTold Release on_hold a b ending wanted = ServesLooks queues entry_of device races limits stable First a b ending wanted
+      StaysIdle queues entry_of IsTaken device races limits stable (record a { tags = freed a.tags }) b ending wanted
+  QueueTold Hold on_hold a b ending wanted =
+      StaysIdle queues entry_of IsTaken device races limits stable a b ending wanted
+  QueueTold Release on_hold a b ending wanted =
+      ServesLooks queues entry_of IsTaken device races limits stable First a b ending wanted
 
 -- The disk does what the host says.
-pub record DoesAsTold {Ring T : Type 0} (queues : RacingKind Ring) (entry_of : T → Entry) (races : Bool)
-    (limits : LookLimits) (stable : Bool) (said : HostEvent) (disk : RacingHostedDisk T) (old new : Sightings)
+pub record DoesAsTold {Ring T : Type 0} (queues : RacingKind Ring) (entry_of : T → Entry) (IsTaken : Ring → T → Type 0)
+    (races : Bool) (limits : LookLimits) (stable : Bool) (said : HostEvent) (disk : RacingHostedDisk T) (old new : Sightings)
     (before after : Ring) (disk' : RacingHostedDisk T) (ending : LookEnding) (wanted : Bool) : Type 0 where
   pub left : Budget
-  pub queue : QueueTold queues entry_of disk.device races limits stable said disk.on_hold
+  pub queue : QueueTold queues entry_of IsTaken disk.device races limits stable said disk.on_hold
       (place_at old before limits.budget disk.tags) (place_at new after left disk'.tags) ending wanted
   pub is : disk' ≡ record disk { tags = disk'.tags; on_hold = held_by said disk.on_hold }
 

@@ -16,7 +16,7 @@ ghost use Rattle.racing_service.specs.LeftAlone.{LeavesPacked, LeavesSplit};
 ghost use Rattle.racing_service.specs.Queue.{racing_packed, racing_split};
 ghost use Rattle.racing_service.specs.Service.{Standing};
 ghost use Rattle.racing_hosted_disk.specs.Disk.{HoldsFlights, RacingHostedDisk, fresh_disk};
-ghost use Rattle.racing_hosted_disk.specs.Laws.{IsAskedAlone, IsToldOf, LandsAsOne, PackedToken, SplitToken, moment_asked, packed_entry, split_entry};
+ghost use Rattle.racing_hosted_disk.specs.Laws.{IsAskedAlone, IsToldOf, LandsAsOne, PackedToken, SplitToken, moment_asked, packed_entry, packed_taken, split_entry, split_taken};
 ghost use Rattle.racing_hosted_disk.specs.Looking.{AsksIn, Place};
 ghost use Rattle.racing_hosted_disk.specs.Tags.{InFlight};
 ghost use Rattle.racing_hosted_disk.specs.Told.{Lands, told_unserved};
@@ -28,11 +28,11 @@ use racing_service::KeepsFlights;
 pub fn a_guest_that_stands_still_is_told_of_as_it_is()
     ensures split { (device : BlockDevice) (stage : Stage) (most : ℕ) (stable wanted : Bool) (here : InFlight SplitToken)
         (a b : Standing RingState (Unit {0}))
-        (asks : AsksIn racing_split split_entry device false stage most stable here a b wanted)
+        (asks : AsksIn racing_split split_entry split_taken device false stage most stable here a b wanted)
         → IsToldOf split_kind split_entry device stable (memory asks.finds.at.sightings) asks.finds.at.ring asks.buffers here }
     ensures packed { (device : BlockDevice) (stage : Stage) (most : ℕ) (stable wanted : Bool) (here : InFlight PackedToken)
         (a b : Standing RingState (Unit {0}))
-        (asks : AsksIn racing_packed packed_entry device false stage most stable here a b wanted)
+        (asks : AsksIn racing_packed packed_entry packed_taken device false stage most stable here a b wanted)
         → IsToldOf packed_kind packed_entry device stable (memory asks.finds.at.sightings) asks.finds.at.ring asks.buffers here }
 {}
 
@@ -42,17 +42,17 @@ pub fn a_guest_that_stands_still_is_told_of_as_it_is()
 pub fn a_chain_that_is_left_alone_is_told_of_as_it_is()
     ensures split { (device : BlockDevice) (races : Bool) (stage : Stage) (most : ℕ) (stable wanted : Bool) (here : InFlight SplitToken)
         (a b : Standing RingState (Unit {0}))
-        (asks : AsksIn racing_split split_entry device races stage most stable here a b wanted)
-        → IsAskedAlone racing_split split_entry device races stage most stable here a b wanted asks LeavesSplit
+        (asks : AsksIn racing_split split_entry split_taken device races stage most stable here a b wanted)
+        → IsAskedAlone racing_split split_entry split_taken device races stage most stable here a b wanted asks LeavesSplit
         → IsToldOf split_kind split_entry device stable
-        (moment_asked racing_split split_entry device races stage most stable here a b wanted asks) asks.finds.at.ring asks.buffers
+        (moment_asked racing_split split_entry split_taken device races stage most stable here a b wanted asks) asks.finds.at.ring asks.buffers
         here }
     ensures packed { (device : BlockDevice) (races : Bool) (stage : Stage) (most : ℕ) (stable wanted : Bool) (here : InFlight PackedToken)
         (a b : Standing RingState (Unit {0}))
-        (asks : AsksIn racing_packed packed_entry device races stage most stable here a b wanted)
-        → IsAskedAlone racing_packed packed_entry device races stage most stable here a b wanted asks LeavesPacked
+        (asks : AsksIn racing_packed packed_entry packed_taken device races stage most stable here a b wanted)
+        → IsAskedAlone racing_packed packed_entry packed_taken device races stage most stable here a b wanted asks LeavesPacked
         → IsToldOf packed_kind packed_entry device stable
-        (moment_asked racing_packed packed_entry device races stage most stable here a b wanted asks) asks.finds.at.ring
+        (moment_asked racing_packed packed_entry packed_taken device races stage most stable here a b wanted asks) asks.finds.at.ring
         asks.buffers here }
 {}
 

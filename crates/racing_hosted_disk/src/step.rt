@@ -49,7 +49,7 @@ pub(crate) fn look_for<Q: KeepsFlights, M: Shared, A: Allocator>(
         (standing_at (M.sightings mem.old) queue.old tt limits.budget)
         (standing_at (M.sightings mem.new) queue.new tt outcome.left) outcome.ending outcome.wanted) }
     ensures idle { OnOk result (tags.new ≡ tags.old) }
-    ensures finds { IfErr result (λ step. (asks : Option (InFlight Q.Token)) × LooksOn Q.kind Q.entry_of disk.old.device
+    ensures finds { IfErr result (λ step. (asks : Option (InFlight Q.Token)) × LooksOn Q.kind Q.entry_of Q.IsTaken disk.old.device
         (M.races mem.old) stage limits.rounds stable asks (place_at (M.sightings mem.old) queue.old limits.budget tags.old)
         (place_at (M.sightings mem.new) queue.new step.left tags.new) step.wanted) }
     ensures device { disk.new.device ≡ disk.old.device }
@@ -92,7 +92,7 @@ fn look_into<Q: KeepsFlights, M: Shared, A: Allocator>(
         (standing_at (M.sightings mem.old) queue.old tt limits.budget)
         (standing_at (M.sightings mem.new) queue.new tt outcome.left) outcome.ending outcome.wanted) }
     ensures idle { OnOk result (tag.new ≡ None) }
-    ensures finds { IfErr result (λ step. FindsIn Q.kind Q.entry_of disk.old.device (M.races mem.old) stage limits.rounds stable tag.new
+    ensures finds { IfErr result (λ step. FindsIn Q.kind Q.entry_of Q.IsTaken disk.old.device (M.races mem.old) stage limits.rounds stable tag.new
         (standing_at (M.sightings mem.old) queue.old tt limits.budget)
         (standing_at (M.sightings mem.new) queue.new tt step.left) step.wanted) }
     ensures asks { IfErr result (λ step. step.asks ≡ is_some tag.new) }

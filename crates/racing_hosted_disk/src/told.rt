@@ -36,7 +36,7 @@ impl<T: Drop, A: Allocator> RacingHostedDisk<T, A> {
         requires lies { Q.LiesIn (memory (M.sightings mem.old)) queue.old }
         requires held { HoldsFlights Q.entry_of Q.Fits Q.ahead_of (memory (M.sightings mem.old)) queue.old self.old }
         ensures found { is_some result ≡ has_effect said self.old }
-        ensures does { IfSome result (λ served. DoesAsTold Q.kind Q.entry_of (M.races mem.old) limits stable said self.old
+        ensures does { IfSome result (λ served. DoesAsTold Q.kind Q.entry_of Q.IsTaken (M.races mem.old) limits stable said self.old
             (M.sightings mem.old) (M.sightings mem.new) queue.old queue.new self.new served.ending served.wanted) }
         ensures kept { IfNone result (self.new ≡ self.old) }
         ensures unwritten { IfNone result (M.sightings mem.new ≡ M.sightings mem.old) }
@@ -74,7 +74,7 @@ impl<T: Drop, A: Allocator> RacingHostedDisk<T, A> {
         requires lies { Q.LiesIn (memory (M.sightings mem.old)) queue.old }
         requires held { HoldsFlights Q.entry_of Q.Fits Q.ahead_of (memory (M.sightings mem.old)) queue.old self.old }
         ensures found { is_some result ≡ has_effect (HostEvent.Complete tag verdict) self.old }
-        ensures does { IfSome result (λ served. DoesAsTold Q.kind Q.entry_of (M.races mem.old) limits stable
+        ensures does { IfSome result (λ served. DoesAsTold Q.kind Q.entry_of Q.IsTaken (M.races mem.old) limits stable
             (HostEvent.Complete tag verdict) self.old (M.sightings mem.old) (M.sightings mem.new) queue.old queue.new self.new
             served.ending served.wanted) }
         ensures kept { IfNone result (self.new ≡ self.old) }
@@ -164,7 +164,7 @@ impl<T: Drop, A: Allocator> RacingHostedDisk<T, A> {
         requires lies { Q.LiesIn (memory (M.sightings mem.old)) queue.old }
         requires held { HoldsFlights Q.entry_of Q.Fits Q.ahead_of (memory (M.sightings mem.old)) queue.old self.old }
         ensures found { is_some result ≡ self.old.on_hold }
-        ensures does { IfSome result (λ served. DoesAsTold Q.kind Q.entry_of (M.races mem.old) limits stable HostEvent.Release
+        ensures does { IfSome result (λ served. DoesAsTold Q.kind Q.entry_of Q.IsTaken (M.races mem.old) limits stable HostEvent.Release
             self.old (M.sightings mem.old) (M.sightings mem.new) queue.old queue.new self.new served.ending served.wanted) }
         ensures kept { IfNone result (self.new ≡ self.old) }
         ensures unwritten { IfNone result (M.sightings mem.new ≡ M.sightings mem.old) }

@@ -71,7 +71,7 @@ module _ {Ring State : Type 0} {kind : RacingKind Ring} {IsSound : Memory → Ri
   stands_behind m served new ring past s t buffers entry written len any does counts tells gives passes =
       rw (gives, passes, does, counts, tells) refl
 
-  served : (a b : Standing Ring State) → IsSound (memory a.sightings) a.ring → ServesOne kind device false a b → IsServed a b
+  pub served : (a b : Standing Ring State) → IsSound (memory a.sightings) a.ring → ServesOne kind device false a b → IsServed a b
   served a b sound s =
       let m = memory a.sightings in
       let taken : memory s.taken ≡ m = one_still a.sightings s.taken s.loads in
@@ -111,7 +111,7 @@ module _ {Ring State : Type 0} {kind : RacingKind Ring} {IsSound : Memory → Ri
     pub serves : ServesAll kind.still device (site_of a) chains (site_of b)
     pub sound : IsSound (memory b.sightings) b.ring
 
-  all_served : (between : List (Standing Ring State)) (a b : Standing Ring State) → IsSound (memory a.sightings) a.ring
+  pub all_served : (between : List (Standing Ring State)) (a b : Standing Ring State) → IsSound (memory a.sightings) a.ring
       → ServesSome kind device false a between b → AreServed a b
   all_served [] a b sound s = record {
     chains = [];
@@ -127,7 +127,7 @@ module _ {Ring State : Type 0} {kind : RacingKind Ring} {IsSound : Memory → Ri
       }
 
   -- where only reads lie between
-  same_memory : (a b : Standing Ring State) → OnlyLoads kind device false a b → memory b.sightings ≡ memory a.sightings
+  pub same_memory : (a b : Standing Ring State) → OnlyLoads kind device false a b → memory b.sightings ≡ memory a.sightings
   same_memory a b only = one_still a.sightings b.sightings only.loads
 
   -- how a round ends that isn't cut by its budget
@@ -173,7 +173,7 @@ module _ {Ring State : Type 0} {kind : RacingKind Ring} {IsSound : Memory → Ri
     pub works : services.Works kind.still device fault (site_of a) ending (site_of b)
     pub sound : IsSound (memory b.sightings) b.ring
 
-  worked : (fault : Option Fault) (halt : Halt) (ending : Ending) (a b : Standing Ring State) → EndsAs halt ending
+  pub worked : (fault : Option Fault) (halt : Halt) (ending : Ending) (a b : Standing Ring State) → EndsAs halt ending
       → IsSound (memory a.sightings) a.ring → Works kind device false fault a halt b → AreWorks fault a b ending
   worked (Some fault) halt ending a b e sound w =
       let met : EndsAs (Met fault) ending = rw w.0 at e in record {

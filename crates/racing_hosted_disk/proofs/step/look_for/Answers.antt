@@ -70,7 +70,7 @@ pub returns-then-step-clause-ahead : goal.returns-then-step-clause-ahead
 returns-then-step-clause-ahead g c =
     taken_ahead g.Q.RacingQueue.kind g.Q.RacingQueue.entry_of g.Q.RacingQueue.IsAhead
     g.Q.KeepsFlights.Fits g.Q.KeepsFlights.ahead_of g.met.Q.KeepsFlights.lasts c.args.disk.now.device
-    (g.M.Shared.races c.args.mem.now) c.args.stage c.args.limits.rounds c.args.stable c.look_into.new.tag
+    (g.M.Shared.races c.args.mem.now) c.args.stage c.args.limits.rounds g.Q.RacingQueue.IsTaken c.args.stable c.look_into.new.tag
     (standing_at (g.M.Shared.sightings c.args.mem.now) c.args.queue.now tt c.args.limits.budget)
     (standing_at (g.M.Shared.sightings c.look_into.new.mem) c.look_into.new.queue tt c.in-Err.step.left)
     c.in-Err.step.wanted c.tags.inside.items.items c.args.tag (ap free_tag c.tags.view_is ∙ c.requires.lowest)
@@ -80,7 +80,7 @@ pub returns-else-step-clause-ahead : goal.returns-else-step-clause-ahead
 returns-else-step-clause-ahead g c =
     taken_ahead g.Q.RacingQueue.kind g.Q.RacingQueue.entry_of g.Q.RacingQueue.IsAhead
     g.Q.KeepsFlights.Fits g.Q.KeepsFlights.ahead_of g.met.Q.KeepsFlights.lasts c.args.disk.now.device
-    (g.M.Shared.races c.args.mem.now) c.args.stage c.args.limits.rounds c.args.stable c.look_into.new.tag
+    (g.M.Shared.races c.args.mem.now) c.args.stage c.args.limits.rounds g.Q.RacingQueue.IsTaken c.args.stable c.look_into.new.tag
     (standing_at (g.M.Shared.sightings c.args.mem.now) c.args.queue.now tt c.args.limits.budget)
     (standing_at (g.M.Shared.sightings c.look_into.new.mem) c.look_into.new.queue tt c.in-Err.step.left)
     c.in-Err.step.wanted c.tags.inside.items.items c.args.tag (ap free_tag c.tags.view_is ∙ c.requires.lowest)

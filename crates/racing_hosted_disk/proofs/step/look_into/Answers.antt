@@ -12,18 +12,18 @@ returns-in-Ok-clause-range g c =
 
 pub returns-in-Err-clause-finds : goal.returns-in-Err-clause-finds
 returns-in-Err-clause-finds g c =
-    found_in g.Q.RacingQueue.kind g.Q.RacingQueue.entry_of c.args.disk.now.device _ _ _ _ _ _ c.look.new.chain
+    found_in g.Q.RacingQueue.kind g.Q.RacingQueue.entry_of g.Q.RacingQueue.IsTaken c.args.disk.now.device _ _ _ _ _ _ c.look.new.chain
     c.look.new.runs c.in-Err.field-0.wanted c.in-Err.field-0.flight c.in-Err.ensures.asks c.in-Err.ensures.answers
 
 pub returns-in-Err-clause-held : goal.returns-in-Err-clause-held
 returns-in-Err-clause-held g c =
-    found_held g.Q.RacingQueue.kind g.Q.RacingQueue.entry_of c.args.disk.now.device _ _ _ _ _ _ c.look.new.chain
+    found_held g.Q.RacingQueue.kind g.Q.RacingQueue.entry_of g.Q.RacingQueue.IsTaken c.args.disk.now.device _ _ _ _ _ _ c.look.new.chain
     c.look.new.runs c.in-Err.field-0.wanted c.in-Err.field-0.flight c.args.disk.now.device.extent.count
     (memory (g.M.Shared.sightings c.look.new.mem)) c.in-Err.ensures.asks c.in-Err.ensures.inside c.in-Err.ensures.place
 
 pub returns-in-Err-clause-fits : goal.returns-in-Err-clause-fits
 returns-in-Err-clause-fits g c =
-    found_fits g.Q.RacingQueue.kind g.Q.RacingQueue.entry_of c.args.disk.now.device (g.M.Shared.races c.args.mem.now)
+    found_fits g.Q.RacingQueue.kind g.Q.RacingQueue.entry_of g.Q.RacingQueue.IsTaken c.args.disk.now.device (g.M.Shared.races c.args.mem.now)
     c.args.stage c.args.limits.rounds c.args.stable
     (standing_at (g.M.Shared.sightings c.args.mem.now) c.args.queue.now tt c.args.limits.budget)
     (standing_at (g.M.Shared.sightings c.look.new.mem) c.look.new.queue tt c.in-Err.field-0.left)
@@ -34,5 +34,5 @@ returns-in-Err-clause-fits g c =
 pub returns-in-Err-clause-range : goal.returns-in-Err-clause-range
 returns-in-Err-clause-range g c =
     (found_launches g.Q.RacingQueue.kind g.Q.RacingQueue.entry_of g.Q.RacingQueue.IsAhead
-    g.Q.KeepsFlights.Fits g.Q.KeepsFlights.ahead_of g.met.Q.KeepsFlights.lasts c.args.disk.now.device _ _ _ _ _ _ _ _
+    g.Q.KeepsFlights.Fits g.Q.KeepsFlights.ahead_of g.met.Q.KeepsFlights.lasts c.args.disk.now.device _ _ _ g.Q.RacingQueue.IsTaken _ _ _ _ _
     (returns-in-Err-clause-finds g c) (returns-in-Err-clause-fits g c)).range

@@ -12,12 +12,13 @@ pub returns-then-asks-clause-asks : goal.returns-then-asks-clause-asks
 returns-then-asks-clause-asks g c =
     one_asks g.Q.RacingQueue.kind c.args.self.now.device _ _ _ _ (g.M.Shared.sightings c.serve.new.mem) c.serve.new.queue
     c.in-Err.refused.left c.serve.new.chain (g.Q.RacingQueue.entry_of c.in-Err.refused.token) c.in-Err.refused.why
-    c.serve.new.backend c.in-Err.refused.wanted (record { service = c.in-Err.ensures.refuses }) c.args.stable
+    c.serve.new.backend c.in-Err.refused.wanted (record { service = c.in-Err.ensures.refuses })
+    (λ ring. g.Q.RacingQueue.IsTaken ring c.launch-flight.result.token) c.args.stable
     c.launch-flight.new.queue _ c.launch-flight.result.operation c.launch-flight.result.status
     c.launch-flight.result.writable c.launch-flight.new.runs (sym c.asks.ensures ∙ c.if-asks.true)
     c.launch-flight.ensures.operation (rw c.serve.ensures.setup at c.launch-flight.ensures.runs)
     c.launch-flight.ensures.status (ap g.Q.RacingQueue.entry_of c.launch-flight.ensures.token)
-    c.launch-flight.ensures.launched
+    c.launch-flight.ensures.launched (rw c.launch-flight.ensures.token c.in-Err.ensures.taken)
 
 pub returns-then-asks-clause-inside : goal.returns-then-asks-clause-inside
 returns-then-asks-clause-inside g c =

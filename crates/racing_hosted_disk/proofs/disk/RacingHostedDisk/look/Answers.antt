@@ -9,7 +9,7 @@ use Rattle.racing_hosted_disk.proofs.disk.RacingHostedDisk.look.Goals as goal
 
 pub returns-in_default-clause-looks : goal.returns-in_default-clause-looks
 returns-in_default-clause-looks g c =
-    looks_full g.Q.RacingQueue.kind g.Q.RacingQueue.entry_of c.args.self.now.device (g.M.Shared.races c.args.mem.now)
+    looks_full g.Q.RacingQueue.kind g.Q.RacingQueue.entry_of g.Q.RacingQueue.IsTaken c.args.self.now.device (g.M.Shared.races c.args.mem.now)
     c.args.limits c.args.stable c.args.stage c.loop.here
     (place_at (g.M.Shared.sightings c.args.mem.now) c.args.queue.now c.args.limits.budget c.args.self.now.tags)
     (g.M.Shared.sightings c.loop.mem) c.loop.queue c.loop.left c.loop.self-inside.tags c.loop.counter c.loop.wanted
@@ -18,7 +18,7 @@ returns-in_default-clause-looks g c =
 pub returns-in-Ok-clause-looks : goal.returns-in-Ok-clause-looks
 returns-in-Ok-clause-looks g c =
     let v = c.loop.invariant in
-    looks_served g.Q.RacingQueue.kind g.Q.RacingQueue.entry_of c.args.self.now.device (g.M.Shared.races c.args.mem.now)
+    looks_served g.Q.RacingQueue.kind g.Q.RacingQueue.entry_of g.Q.RacingQueue.IsTaken c.args.self.now.device (g.M.Shared.races c.args.mem.now)
     c.args.limits c.args.stable c.args.stage c.loop.here
     (place_at (g.M.Shared.sightings c.args.mem.now) c.args.queue.now c.args.limits.budget c.args.self.now.tags)
     (g.M.Shared.sightings c.loop.mem) c.loop.queue c.loop.left c.loop.self-inside.tags c.loop.counter c.loop.wanted v.looking
@@ -30,7 +30,7 @@ returns-in-Ok-clause-looks g c =
 pub loop-preserved : goal.loop-preserved
 loop-preserved g c =
     let v = c.loop.invariant in record {
-      looking = looks_on g.Q.RacingQueue.kind g.Q.RacingQueue.entry_of c.args.self.now.device
+      looking = looks_on g.Q.RacingQueue.kind g.Q.RacingQueue.entry_of g.Q.RacingQueue.IsTaken c.args.self.now.device
           (g.M.Shared.races c.args.mem.now) c.args.limits c.args.stable c.args.stage c.loop.here
           (place_at (g.M.Shared.sightings c.args.mem.now) c.args.queue.now c.args.limits.budget c.args.self.now.tags)
           (place_at (g.M.Shared.sightings c.loop.mem) c.loop.queue c.loop.left c.loop.self-inside.tags)
@@ -50,7 +50,7 @@ loop-preserved g c =
 pub returns-clause-looks : goal.returns-clause-looks
 returns-clause-looks g c =
     let v = c.loop.invariant in
-    looks_limited g.Q.RacingQueue.kind g.Q.RacingQueue.entry_of c.args.self.now.device (g.M.Shared.races c.args.mem.now)
+    looks_limited g.Q.RacingQueue.kind g.Q.RacingQueue.entry_of g.Q.RacingQueue.IsTaken c.args.self.now.device (g.M.Shared.races c.args.mem.now)
     c.args.limits c.args.stable c.args.stage c.loop.here
     (place_at (g.M.Shared.sightings c.args.mem.now) c.args.queue.now c.args.limits.budget c.args.self.now.tags)
     (g.M.Shared.sightings c.loop.mem) c.loop.queue c.loop.left c.loop.self-inside.tags c.loop.counter c.loop.wanted

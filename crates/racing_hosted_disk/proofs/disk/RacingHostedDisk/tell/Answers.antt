@@ -4,7 +4,7 @@ use Rattle.racing_hosted_disk.proofs.disk.RacingHostedDisk.tell.Goals as goal
 pub returns-in-Drop-clause-does : goal.returns-in-Drop-clause-does
 returns-in-Drop-clause-does g c =
     rw (c.in-Drop.is)
-    (dropped g.Q.RacingQueue.kind g.Q.RacingQueue.entry_of _ c.args.limits c.args.stable c.give_up.result c.args.self.now
+    (dropped g.Q.RacingQueue.kind g.Q.RacingQueue.entry_of g.Q.RacingQueue.IsTaken _ c.args.limits c.args.stable c.give_up.result c.args.self.now
     c.give_up.new.self _ _ c.give_up.ensures.idle c.give_up.ensures.gives)
 
 pub returns-in-Drop-clause-held : goal.returns-in-Drop-clause-held
@@ -15,5 +15,5 @@ returns-in-Drop-clause-held g c =
 pub returns-in-Hold-clause-does : goal.returns-in-Hold-clause-does
 returns-in-Hold-clause-does g c =
     rw (c.in-Hold.is)
-    (held_back g.Q.RacingQueue.kind g.Q.RacingQueue.entry_of _ c.args.limits c.args.stable c.hold.result c.args.self.now
+    (held_back g.Q.RacingQueue.kind g.Q.RacingQueue.entry_of g.Q.RacingQueue.IsTaken _ c.args.limits c.args.stable c.hold.result c.args.self.now
     c.hold.new.self _ _ c.hold.ensures.idle c.hold.ensures.held)
