@@ -1,5 +1,5 @@
 -- A service of a queue that stands still begins with one service, and is no more than that where nothing is to be served behind it.
-use Rattle.std.proofs.Common.{◌≡◌, ◌∙◌, ℕ, Bool, true, false, Option, Some, None, List, [], ◌∷◌, refl, sym, ap, arith}
+use Rattle.std.proofs.Common.{◌≡◌, ◌∙◌, ℕ, Bool, true, false, Option, Some, None, List, [], ◌∷◌, refl, sym, ap}
 use Rattle.std.specs.Prelude.{◌&&◌, ◌||◌, ⊤}
 use Rattle.chain.specs.declared.budget.Progress.TheVariants as progress
 use Rattle.chain.specs.declared.fault.Fault.{Fault}
@@ -28,7 +28,7 @@ no_both true true none t o = let no : true ≡ false = none in cc
 no_both true false none t o = let no : false ≡ true = o in cc
 no_both false offers none t o = let no : false ≡ true = t in cc
 
-or_false : (w : Bool) → (w || false) ≡ w
+pub or_false : (w : Bool) → (w || false) ≡ w
 or_false true = refl
 or_false false = refl
 
@@ -82,7 +82,7 @@ module _ {State : Type 0} (device : Device State) where
   no_working (Some met) fault a b sound opens none w = cc
   no_working None fault a b sound opens none w = no_serving fault w.between a w.at b sound none w.serves w.halts
 
-  no_broken : (fault : Fault) (a b : Standing Queue State) (wanted : Bool) → IsQueueSound (memory a.sightings) a.ring
+  pub no_broken : (fault : Fault) (a b : Standing Queue State) (wanted : Bool) → IsQueueSound (memory a.sightings) a.ring
       → IsAtRest device (memory a.sightings) a.ring a.state
       → IsRound racing_queue device false Again a (Met fault) b wanted → ⊥
   no_broken fault a b wanted sound rest r =

@@ -6,7 +6,6 @@ use Rattle.chain.specs.declared.budget.Progress.TheVariants as progress
 use Rattle.mmio_window.specs.declared.action.Action.{Action}
 use Rattle.mmio_window.specs.declared.action.Action.TheVariants as action
 use Rattle.mmio_window.specs.declared.queue.Queue.{Queue}
-use Rattle.mmio_window.specs.declared.queue.Token.{Token}
 use Rattle.mmio_window.specs.Ready.{may_stop_queues}
 use Rattle.mmio_window.specs.Soundness.{IsSound}
 use Rattle.mmio_window.specs.Window.{WindowState, queue_at}
@@ -19,8 +18,6 @@ use Rattle.block_device.specs.Hosting.{wants_stable}
 use Rattle.hosted_disk.specs.Disk as hosted
 use Rattle.racing_service.specs.declared.stage.Stage.TheVariants.{First}
 use Rattle.racing_hosted_disk.specs.declared.look.LookLimits.{LookLimits}
-use Rattle.racing_hosted_disk.specs.Disk.{RacingHostedDisk}
-use Rattle.racing_hosted_disk.specs.Tags.{InFlight}
 use Rattle.racing_guest.specs.Block as racing
 use Rattle.racing_guest.specs.Block.{NotifiesBlock, NotifiesIf, RacingBlock, WritesBlock, is_notified}
 use Rattle.racing_guest.specs.Guest.{IsSoundGuest, RacingGuest}
@@ -32,8 +29,8 @@ use Rattle.board.specs.Machine.{at_rest}
 use Rattle.board.specs.Slot.{SlotState}
 use Rattle.board.specs.Task.{Finishes, task_of}
 use Rattle.standing_guest.specs.Event.{BeginsWith, BlockStands, IsEvent, NotifiedStands}
-use Rattle.standing_guest.specs.Requests.{NotifyFindsNone, WriteFindsNone}
 use Rattle.standing_guest.specs.Slot.{slot_of, tags_of}
+use Rattle.standing_guest.proofs.Going.{Tags, queue_of}
 use Rattle.standing_guest.proofs.Looking.{looked, looks_unready}
 use Rattle.standing_guest.proofs.Tags.{as_still, same_any}
 use Rattle.standing_guest.proofs.Writing.{written_sound}
@@ -110,44 +107,47 @@ module _ (A : Type 0) where
     device_is : block.disk.device ≡ hosted_device ready
     device_is = own_device block.disk.device own
 
-    same : (m : Memory) (w : WindowState) → memory new ≡ m → after.block.window ≡ w → after.block.disk ≡ block.disk
-        → slot_of (memory new) after ≡ record ready { memory = m; block = w }
-    same m w memories windows disks = rw (memories, windows, disks, console) refl
+    -- the slot, where its queue stands so
+    abbrev stood : Memory → WindowState → Tags → SlotState
+    stood m w tags = record ready {
+      memory = m;
+      block = w;
+      host = Some (record { sectors = block.disk.device.extent.count; tags = as_still tags });
+    }
+
+    same : (m : Memory) (w : WindowState) (tags : Tags) → memory new ≡ m → after.block.window ≡ w
+        → after.block.disk ≡ record block.disk { tags = tags } → slot_of (memory new) after ≡ stood m w tags
+    same m w tags memories windows disks = rw (memories, windows, disks, console) refl
 
     pub record BeginsSlotLook : Type 0 where
       pub first : SlotState
       pub looks : LooksAtQueue ready first
       pub whole : BlockStands (memory old) first → slot_of (memory new) after ≡ first
 
-    -- a disk that stays as it was, but for its tags
-    disk_stays : (disk disk' : RacingHostedDisk Token) → disk' ≡ record disk { tags = disk'.tags } → disk'.tags ≡ disk.tags
-        → disk' ≡ disk
-    disk_stays disk disk' is tags = is ∙ ap (λ (tags : List (Option (InFlight Token))). record disk { tags = tags }) tags
-
     notified_at : (found : Option Queue) → queue_at 0 block.window ≡ found
-        → (n : NotifiesBlock false limits found old new block after.block progress.Done)
-        → NotifyFindsNone found limits old new block after.block progress.Done n → BeginsSlotLook
-    notified_at None at n none = record {
+        → NotifiesBlock false limits found old new block after.block progress.Done → BeginsSlotLook
+    notified_at None at n = record {
       first = ready;
       looks = record { looks = looks_unready (hosted_device ready) (hosted_queue ready) block.disk.on_hold at; rest = refl };
-      whole = λ stands. same (memory old) block.window (ap memory n.memory) (ap (λ (b : RacingBlock). b.window) n.device)
+      whole = λ stands. same (memory old) block.window block.disk.tags (ap memory n.memory) (ap (λ (b : RacingBlock). b.window) n.device)
           (ap (λ (b : RacingBlock). b.disk) n.device);
     }
-    notified_at (Some queue) at n none =
+    notified_at (Some queue) at n =
         let disk = block.disk in
         let b = looked disk.device limits limits.budget (wants_stable block.window) First old new block.window after.block.window queue n.last
-        n.disk.left disk.tags after.block.disk.tags n.wanted sound at tt disk.on_hold n.ending (sym n.progress_is) n.window
-        n.disk.looks none in
+        n.disk.left disk.tags after.block.disk.tags n.wanted sound at refl tt disk.on_hold n.ending (sym n.progress_is)
+        n.window n.disk.looks in
         record {
-          first = record ready { memory = b.memory; block = b.window };
+          first = stood b.memory b.window b.kept;
           looks = record {
             looks = subst (λ (d : BlockDevice). hosted.LooksUnless disk.on_hold d (hosted_queue ready)
-                (record { memory = b.memory; window = b.window; tags = as_still disk.tags })) device_is b.looks;
+                (queue_of b.memory b.window b.kept)) device_is b.looks;
             rest = refl;
           };
           whole = λ stands.
               let all = b.stands stands in
-              same b.memory b.window all.0 all.1 (disk_stays disk after.block.disk n.disk.is all.2);
+              same b.memory b.window b.kept all.0 all.1
+              (n.disk.is ∙ ap (λ (tags : Tags). record disk { tags = tags }) all.2);
         }
 
   -- ---- a write
@@ -155,28 +155,24 @@ module _ (A : Type 0) where
   pub block_written : (offset width value : ℕ) (limits : LookLimits) (old new : Sightings) (guest after : RacingGuest)
       (out out' : List ℕ) → IsSoundGuest (memory old) guest → guest.block.disk.device.extent.start ≡ 0
       → racing.must_wait offset guest.block ≡ false → after.console ≡ guest.console → out' ≡ out
-      → (w : WritesBlock offset width value false limits old new guest.block after.block progress.Done)
-      → WriteFindsNone (is_notified (action_of offset width value guest.block.window)) limits old new
-      (record guest.block { window = written offset width value (memory old) guest.block.window }) after.block progress.Done w
+      → WritesBlock offset width value false limits old new guest.block after.block progress.Done
       → BeginsWith {A = A} (slot_of (memory old) guest) (Write window.Block offset width value) Done
       (slot_of (memory new) after) out out'
-  block_written offset width value limits old new guest after out out' sound own free console nothing w none =
-      by (is_notified (action_of offset width value guest.block.window)) refl w none
+  block_written offset width value limits old new guest after out out' sound own free console nothing w =
+      by (is_notified (action_of offset width value guest.block.window)) refl w
     where
       by : (rings : Bool) → is_notified (action_of offset width value guest.block.window) ≡ rings
-          → (n : NotifiesIf rings false limits old new
-          (record guest.block { window = written offset width value (memory old) guest.block.window }) after.block progress.Done)
-          → WriteFindsNone rings limits old new
-          (record guest.block { window = written offset width value (memory old) guest.block.window }) after.block progress.Done n
+          → NotifiesIf rings false limits old new
+          (record guest.block { window = written offset width value (memory old) guest.block.window }) after.block progress.Done
           → BeginsWith {A = A} (slot_of (memory old) guest) (Write window.Block offset width value) Done
           (slot_of (memory new) after) out out'
-      by true rings n none =
+      by true rings n =
           let block : RacingBlock = record guest.block { window = written offset width value (memory old) guest.block.window } in
           let action = action_of offset width value guest.block.window in
           let waits = write_waits_too (memory old) guest offset false free in
           let b = notified_at limits old new guest after block
           (written_sound offset width value (memory old) guest.block.window sound.block.window) own console
-          (queue_at 0 block.window) refl n none in
+          (queue_at 0 block.window) refl n in
           record {
             first = b.first;
             output = [];
@@ -186,14 +182,14 @@ module _ (A : Type 0) where
             };
             whole = λ stands. (b.whole (stands_by action (memory old) b.first rings stands), nothing ∙ no_more out);
           }
-      by false rings n none =
+      by false rings n =
           let block : RacingBlock = record guest.block { window = written offset width value (memory old) guest.block.window } in
           let action = action_of offset width value guest.block.window in
           let waits = write_waits_too (memory old) guest offset false free in
           let first = slot_of (memory old) (record { block = block; console = guest.console }) in
           let there = same limits old new guest after block
           (written_sound offset width value (memory old) guest.block.window sound.block.window) own console (memory old)
-          block.window (ap memory n.memory) (ap (λ (b : RacingBlock). b.window) n.device)
+          block.window block.disk.tags (ap memory n.memory) (ap (λ (b : RacingBlock). b.window) n.device)
           (ap (λ (b : RacingBlock). b.disk) n.device) in
           record {
             first = first;

@@ -1,6 +1,6 @@
 -- Closing writes that are made twice are those made once. So behind them a service that finds nothing changes nothing.
 use Rattle.std.proofs.Common.{◌≡◌, ◌∙◌, ◌⊎◌, inl, inr, ℕ, ◌+◌, ◌-◌, ◌*◌, ◌<◌, ◌≤◌, Bool, true, false, List, [], ◌∷◌, get_or, length, refl, sym, ap, arith, length-take, length-append, length-drop}
-use Rattle.std.specs.Prelude.{◌||◌, ◌&&◌, if◌then◌else◌}
+use Rattle.std.specs.Prelude.{◌||◌, if◌then◌else◌}
 use Rattle.std.proofs.lemmas.Bool.{cases_lt}
 use Rattle.std.proofs.lemmas.List.{places, same_lists}
 use Rattle.byteorder.specs.Endian.{little_bytes}
@@ -8,7 +8,6 @@ use Rattle.guest_memory.specs.Memory.{Inside, Memory, put, put_at, up_to_gap}
 use Rattle.guest_memory.specs.Pages.{is_reached, marked, page_size}
 use Rattle.guest_memory.proofs.Gaps.{up_to_gap-all}
 use Rattle.guest_memory.proofs.Ranges.{inside_part, length-put_at}
-use Rattle.chain.specs.declared.state.RingState.{RingState}
 use Rattle.chain.specs.Service.{Device, IsService, Spent, open_site}
 use Rattle.split_ring.specs.Ring.{next_taken}
 use Rattle.mmio_window.specs.declared.queue.Queue.{Queue}

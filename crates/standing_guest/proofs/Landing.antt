@@ -21,6 +21,7 @@ use Rattle.block_device.specs.declared.device.BlockDevice.{BlockDevice}
 use Rattle.block_device.specs.declared.operation.Verdict.{Verdict}
 use Rattle.block_device.specs.Asking.{status_by}
 use Rattle.block_device.specs.Flights.{HostedQueue, IsLanding}
+use Rattle.block_device.specs.Hosting.{wants_stable}
 use Rattle.block_device.specs.Request.{code_of}
 use Rattle.racing_service.specs.declared.stage.Stage.TheVariants.{First}
 use Rattle.racing_window.specs.Queue.{racing_queue}
@@ -79,6 +80,12 @@ ready_shown : (w : WindowState) (queue ring : Queue) (wanted : Bool) → queue_a
     → queue_at 0 (landed_window w ring wanted) ≡ Some ring
 ready_shown w queue ring true at = queue_stands_open 0 w queue ring at
 ready_shown w queue ring false at = queue_stands_open 0 w queue ring at
+
+-- whether the driver can flush stays
+pub landed_stable : (w : WindowState) (ring : Queue) (wanted : Bool)
+    → wants_stable (landed_window w ring wanted) ≡ wants_stable w
+landed_stable w ring true = refl
+landed_stable w ring false = refl
 
 -- ---- a completion
 

@@ -5,6 +5,13 @@ pub mod Resting
 pub mod Notifying
 pub mod Writing
 pub mod Tags
+pub mod Coming
+pub mod Round
+pub mod Ending
+pub mod AnyDisk
+pub mod Asking
+pub mod Going
+pub mod Requests
 pub mod Looking
 pub mod Landing
 pub mod Console

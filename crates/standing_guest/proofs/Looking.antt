@@ -1,93 +1,45 @@
--- A look at the queue of a disk that stands still, which finds no request, begins as one of hosted_disk.
-use Rattle.std.proofs.Common.{◌≡◌, ◌∙◌, inl, inr, ℕ, Bool, true, false, Option, Some, None, List, [], refl, sym, ap}
+-- Looks at the queue of a disk that stands still begin as one look of hosted_disk, whether or not they find requests.
+use Rattle.std.proofs.Common.{◌≡◌, ◌∙◌, ℕ, Bool, true, false, Option, Some, None, List, [], ◌∷◌, refl, ap}
 use Rattle.guest_memory.specs.Memory.{Memory}
 use Rattle.chain.specs.declared.budget.Budget.{Budget}
 use Rattle.chain.specs.declared.budget.Progress.TheVariants as progress
-use Rattle.chain.specs.Budget.{AreWithin, chains_of}
-use Rattle.chain.specs.Pieces.{IsServiceWithin}
-use Rattle.chain.specs.Service.{Device, Ending, Given, IsService, Kind, Runs, Served, Site, Spent, open_site}
-use Rattle.sector_cache.specs.Disk.{Disk}
+use Rattle.chain.specs.Service.{Spent}
 use Rattle.mmio_window.specs.declared.queue.Queue.{Queue}
 use Rattle.mmio_window.specs.declared.queue.Token.{Token}
 use Rattle.mmio_window.specs.declared.stage.Stage.TheVariants.{First}
-use Rattle.mmio_window.specs.Pieces.{IsNotifiedWithin, NotifiedWithin}
-use Rattle.mmio_window.specs.Queue.{entry_of, queue_kind}
-use Rattle.mmio_window.specs.Serving.{Notified, ending_of, site_at}
+use Rattle.mmio_window.specs.Queue.{IsTaken, entry_of}
+use Rattle.mmio_window.specs.Serving.{site_at}
 use Rattle.mmio_window.specs.Soundness.{IsSound}
 use Rattle.mmio_window.specs.Window.{WindowState, queue_at}
 use Rattle.shared_memory.specs.Sightings.{Sightings, memory}
 use Rattle.block_device.specs.declared.device.BlockDevice.{BlockDevice}
-use Rattle.block_device.specs.Asking.{unasked_device}
 use Rattle.block_device.specs.Extent.{extent_disk}
 use Rattle.block_device.specs.Flights as still
-use Rattle.block_device.specs.Flights.{AsksNoMore, HostedQueue, LookEnds, unlimited}
-use Rattle.block_device.specs.Hosting.{hosted_device}
+use Rattle.block_device.specs.Flights.{HostedQueue, LookEnds}
+use Rattle.block_device.specs.Hosting.{hosted_device, wants_stable}
 use Rattle.hosted_disk.specs.Disk as hosted
 use Rattle.racing_service.specs.declared.service.Ending.{Ending as RacingEnding}
 use Rattle.racing_service.specs.declared.stage.Stage.{Stage}
-use Rattle.racing_service.specs.Service.{IsRacingService, Standing, standing_at}
+use Rattle.racing_service.specs.declared.stage.Stage.TheVariants as racing
+use Rattle.racing_service.specs.Service.{IsRacingService, standing_at}
 use Rattle.racing_service.specs.Service as services
 use Rattle.racing_window.specs.Queue.{racing_queue}
 use Rattle.racing_window.proofs.Sizes.{sound_queue}
 use Rattle.racing_hosted_disk.specs.declared.look.LookEnding.{LookEnding}
 use Rattle.racing_hosted_disk.specs.declared.look.LookEnding.TheVariants as look
 use Rattle.racing_hosted_disk.specs.declared.look.LookLimits.{LookLimits}
-use Rattle.racing_hosted_disk.specs.Looking.{EndsLooks, AreLooks, LooksUnless, Place, place_at, progress_of}
-use Rattle.racing_hosted_disk.specs.Tags.{InFlight, free_tag}
+use Rattle.racing_hosted_disk.specs.Looking.{AreLooks, EndsLooks, Look, LooksUnless, Place, place_at, progress_of}
+use Rattle.racing_hosted_disk.specs.Tags.{free_tag}
 use Rattle.racing_guest.specs.Block.{showing}
 use Rattle.racing_guest.proofs.Telling.{with_ring_same}
-use Rattle.standing_guest.specs.Requests.{found_in}
 use Rattle.standing_guest.specs.Rest.{WindowRests, WindowStands}
+use Rattle.standing_guest.proofs.AnyDisk.{notified_over}
 use Rattle.standing_guest.proofs.Beginning.{IsBegun, begins_at}
-use Rattle.standing_guest.proofs.Notifying.{BeginsNotified, by_service, first_is_left, notified_too}
-use Rattle.standing_guest.proofs.Simulating.{AnswersAlike, Simulates}
-use Rattle.standing_guest.proofs.Tags.{as_still, same_free}
-
--- ---- a service without a budget is one within an unlimited one
-
-all_within : {State : Type 0} (chains : List (Served State)) → AreWithin unlimited (chains_of chains)
-all_within chains n below (inl spent) = cc
-all_within chains n below (inr spent) = cc
-
-within : {Ring State : Type 0} (kind : Kind Ring) (device : Device State) (old new : Site Ring State) (ending : Ending)
-    (wanted : Bool) → IsService kind device old new ending wanted
-    → IsServiceWithin kind device unlimited old new ending wanted
-within kind device old new ending wanted s = record {
-  service = s;
-  within = λ opens.
-      let runs : Runs kind device (open_site kind device old) ending s.last = rw opens at s.works in
-      record {
-        ends = record { last = s.last; runs = runs; closed = s.closed; wanted_is = s.wanted_is };
-        within = all_within runs.chains;
-      };
-}
-
-notified_within : {State : Type 0} (device : Device State) (q : ℕ) (found : Option Queue) (ending : Ending)
-    (old new : Memory) (before after : WindowState) (s s' : State)
-    → Notified device q found ending old new before after s s'
-    → NotifiedWithin device unlimited q found ending old new before after s s'
-notified_within device q None ending old new before after s s' n = n
-notified_within device q (Some queue) ending old new before after s s' n = record {
-  last = n.last;
-  wanted = n.wanted;
-  service = within queue_kind device (site_at old queue s) (site_at new n.last s') ending n.wanted n.service;
-  window = n.window;
-}
-
--- ---- over any disk
-
-abbrev IsDisk : Disk → Unit {0} → Disk → Type 0
-IsDisk disk s t = t ≡ disk
-
-over_any : (device : BlockDevice) (disk : Disk) (t : Disk) (readable : List ℕ) (w : ℕ) (given : Given (Unit {0})) → t ≡ disk
-    → (hosted_device device).Gives tt readable w given → AnswersAlike (unasked_device device) (IsDisk disk) t readable w given
-over_any device disk t readable w given is gives = record { state = t; gives = gives t; alike = is }
-
-over_disk : (device : BlockDevice) (disk : Disk) → Simulates (hosted_device device) (unasked_device device) (IsDisk disk)
-over_disk device disk = record {
-  takes = λ s t alike. refl;
-  gives = λ s t readable w given alike gives. over_any device disk t readable w given alike gives;
-}
+use Rattle.standing_guest.proofs.Coming.{ComesTo, IsUnopened}
+use Rattle.standing_guest.proofs.Going.{Tags, queue_of}
+use Rattle.standing_guest.proofs.Notifying.{by_service, first_is_left}
+use Rattle.standing_guest.proofs.Requests.{goes_from}
+use Rattle.standing_guest.proofs.Tags.{same_free}
 
 -- ---- a queue that can't be served
 
@@ -107,26 +59,28 @@ pub looks_unready : (device : BlockDevice) (q : HostedQueue) (on_hold : Bool) �
 looks_unready device q true at = refl
 looks_unready device q false at = record { asked = []; looks = ends_unready device q (still.free_tag q.tags) at }
 
--- ---- looks that find no request
+-- ---- looks
 
 module _ (device : BlockDevice) (limits : LookLimits) (budget : Budget) (stable : Bool) (stage : Stage) (old new : Sightings)
     (w w' : WindowState)
-    (queue last : Queue) (left : Budget) (tags tags' : List (Option (InFlight Token))) (wanted : Bool)
-    (sound : IsSound (memory old) w) (at : queue_at 0 w ≡ Some queue)
+    (queue last : Queue) (left : Budget) (tags tags' : Tags) (wanted : Bool)
+    (sound : IsSound (memory old) w) (at : queue_at 0 w ≡ Some queue) (is_stable : wants_stable w ≡ stable)
     (begun : IsBegun (hosted_device device) stage (standing_at old queue tt budget)) where
   abbrev before : HostedQueue
-  before = record { memory = memory old; window = w; tags = as_still tags }
+  before = queue_of (memory old) w tags
+
+  -- the guest is so behind its call
+  abbrev IsSo : Memory → WindowState → Tags → Type 0
+  IsSo m v tags = (memory new ≡ m) × (w' ≡ v) × (tags' ≡ tags)
 
   -- what such a call begins with
   pub record BeginsLook (on_hold : Bool) : Type 0 where
     pub memory : Memory
     pub window : WindowState
-    pub looks : hosted.LooksUnless on_hold device before
-        (record { memory = memory; window = window; tags = as_still tags })
-    pub whole : WindowRests (hosted_device device) 0 memory window tt
-        → (new.at new.now ≡ memory) × (w' ≡ window) × (tags' ≡ tags)
-    pub stands : WindowStands 0 (old.at old.now) memory window
-        → (new.at new.now ≡ memory) × (w' ≡ window) × (tags' ≡ tags)
+    pub kept : Tags
+    pub looks : hosted.LooksUnless on_hold device before (queue_of memory window kept)
+    pub whole : WindowRests (hosted_device device) 0 memory window tt → IsSo memory window kept
+    pub stands : WindowStands 0 (old.at old.now) memory window → IsSo memory window kept
 
   abbrev place : Place Queue Token
   place = place_at old queue budget tags
@@ -136,8 +90,7 @@ module _ (device : BlockDevice) (limits : LookLimits) (budget : Budget) (stable 
 
   -- ---- nothing was done
 
-  stays : behind ≡ place → wanted ≡ false → w' ≡ showing w last look.Full wanted
-      → (memory new ≡ memory old) × (w' ≡ w) × (tags' ≡ tags)
+  stays : behind ≡ place → wanted ≡ false → w' ≡ showing w last look.Full wanted → IsSo (memory old) w tags
   stays is none shown =
       let ring : last ≡ queue = ap (λ (p : Place Queue Token). p.service.ring) is in (
         ap (λ (p : Place Queue Token). memory p.service.sightings) is,
@@ -150,12 +103,13 @@ module _ (device : BlockDevice) (limits : LookLimits) (budget : Budget) (stable 
   resting on_hold looks is none shown = record {
     memory = memory old;
     window = w;
+    kept = tags;
     looks = looks;
     whole = λ rests. stays is none shown;
     stands = λ stands. stays is none shown;
   }
 
-  -- ---- the queue was served
+  -- ---- no request was found
 
   served : (e : RacingEnding) (tag : ℕ) → free_tag tags ≡ Some tag → services.progress_of e ≡ progress.Done
       → IsRacingService racing_queue (hosted_device device) false stage limits.rounds (standing_at old queue tt budget)
@@ -169,29 +123,23 @@ module _ (device : BlockDevice) (limits : LookLimits) (budget : Budget) (stable 
       record {
         memory = b.memory;
         window = b.window;
+        kept = tags;
         looks = record {
           asked = [];
-          looks = rw (same_free tags, free) (record { ends = λ disk. over b (extent_disk device.extent disk); tags = refl });
+          looks = rw (same_free tags, free) (record {
+            ends = λ disk. notified_over device (extent_disk device.extent disk) b.met (queue_at 0 w) (memory old) b.memory w
+                b.window b.state b.notified;
+            tags = refl;
+          });
         };
         whole = λ rests. let all = b.whole rests in (all.0, all.1, kept);
         stands = λ stands. let all = b.stands stands in (all.0, all.1, kept);
       }
-    where
-      over : (b : BeginsNotified (hosted_device device) 0 (memory old) (memory new) w w' tt tt) (disk : Disk)
-          → IsNotifiedWithin (unasked_device device) unlimited 0 (queue_at 0 w) (memory old) b.memory w b.window disk disk
-      over b disk =
-          let also = notified_too (hosted_device device) (unasked_device device) (IsDisk disk) (over_disk device disk) b.met 0
-          (queue_at 0 w) (memory old) b.memory w b.window tt b.state disk refl b.notified in
-          let same : also.state ≡ disk = also.alike in
-          record {
-            ending = ending_of b.met;
-            notified = rw same at (notified_within (unasked_device device) 0 (queue_at 0 w) (ending_of b.met) (memory old)
-                b.memory w b.window disk also.state also.notified);
-          }
 
   by_ending : (ending : LookEnding) (there : Place Queue Token) → there ≡ place → progress_of ending ≡ progress.Done
       → w' ≡ showing w last ending wanted
-      → EndsLooks racing_queue entry_of device false limits stable stage ending [] there behind wanted → BeginsLook false
+      → EndsLooks racing_queue entry_of IsTaken device false limits stable stage ending [] there behind wanted
+      → BeginsLook false
   by_ending (look.Served e) there is done shown ends =
       let free : free_tag tags ≡ Some ends.tag = rw is at ends.free in
       let service : IsRacingService racing_queue (hosted_device device) false stage limits.rounds place.service behind.service e
@@ -205,14 +153,47 @@ module _ (device : BlockDevice) (limits : LookLimits) (budget : Budget) (stable 
   by_ending look.Limited there is done shown ends = cc
   by_ending look.Idle there is done shown ends = absurd ends
 
+  -- ---- some were found
+
+  unopened : IsUnopened device (memory old) First (site_at (memory old) queue tt) place.service
+  unopened = record { begins = refl; same = refl; is = refl; sound = sound_queue (memory old) w 0 queue sound at }
+
+  comes : (from : Stage) → from ≡ stage
+      → ComesTo device from (memory old) First (site_at (memory old) queue tt) place.service
+  comes racing.First is = unopened
+  comes racing.Again is = unopened
+  comes racing.Next is = absurd (rw (← is) at begun)
+
+  found : (ending : LookEnding) (l : Look Queue Token) (looks : List (Look Queue Token)) (there : Place Queue Token)
+      → progress_of ending ≡ progress.Done → w' ≡ showing w last ending wanted
+      → AreLooks racing_queue entry_of IsTaken device false limits stable stage place (l ∷ looks) there
+      → EndsLooks racing_queue entry_of IsTaken device false limits stable stage ending (l ∷ looks) there behind wanted
+      → BeginsLook false
+  found ending l looks there done shown are ends =
+      let goes = goes_from device limits stable (memory old) w w' new last left tags' ending wanted done shown l looks stage place
+      there First (memory old) w queue (record { ready = at; later = λ ring. refl; is_stable = is_stable })
+      (comes stage refl) are ends in
+      record {
+        memory = goes.memory;
+        window = goes.window;
+        kept = goes.tags;
+        looks = record { asked = goes.asked; looks = goes.looks };
+        whole = goes.whole;
+        stands = goes.stands;
+      }
+
+  by_looks : (ending : LookEnding) (looks : List (Look Queue Token)) (there : Place Queue Token)
+      → progress_of ending ≡ progress.Done → w' ≡ showing w last ending wanted
+      → AreLooks racing_queue entry_of IsTaken device false limits stable stage place looks there
+      → EndsLooks racing_queue entry_of IsTaken device false limits stable stage ending looks there behind wanted
+      → BeginsLook false
+  by_looks ending [] there done shown are ends = by_ending ending there are done shown ends
+  by_looks ending (l ∷ looks) there done shown are ends = found ending l looks there done shown are ends
+
   pub looked : (on_hold : Bool) (ending : LookEnding) → progress_of ending ≡ progress.Done
       → w' ≡ showing w last ending wanted
-      → (l : LooksUnless racing_queue entry_of device false limits stable on_hold stage place behind ending wanted)
-      → found_in racing_queue entry_of device false limits stable on_hold stage place behind ending wanted l ≡ []
+      → LooksUnless racing_queue entry_of IsTaken device false limits stable on_hold stage place behind ending wanted
       → BeginsLook on_hold
-  looked true ending done shown l none =
+  looked true ending done shown l =
       resting true refl l.stands l.unwanted (rw l.ending_is at shown)
-  looked false ending done shown l none =
-      let are : AreLooks racing_queue entry_of device false limits stable stage place [] l.at = rw none at l.are in
-      let ends : EndsLooks racing_queue entry_of device false limits stable stage ending [] l.at behind wanted = rw none at l.ends in
-      by_ending ending l.at are done shown ends
+  looked false ending done shown l = by_looks ending l.looks l.at done shown l.are l.ends

@@ -6,7 +6,7 @@ use Rattle.guest_memory.specs.Memory.{Memory}
 use Rattle.chain.specs.declared.budget.Budget.{Budget}
 use Rattle.chain.specs.declared.budget.Progress.TheVariants as progress
 use Rattle.chain.specs.declared.fault.Fault.{Fault}
-use Rattle.chain.specs.Service.{Device, IsService, Site}
+use Rattle.chain.specs.Service.{Device, Site}
 use Rattle.negotiation.specs.Negotiation.{is_live}
 use Rattle.mmio_window.specs.declared.device_kind.DeviceKind.{DeviceKind}
 use Rattle.mmio_window.specs.declared.device_kind.DeviceKind.TheVariants.{Block, Console}
@@ -57,6 +57,13 @@ pub if_some : {X : Type 0} (P : X → Type 0) (found : Option X) (x : X) → fou
 if_some P None x is h = cc
 if_some P (Some y) x is h = let same : y ≡ x = cc in subst P same h
 
+-- what is said of the queue that the window shows behind a service is said of it as the service left it, where it met no fault
+pub without_fault : (q : ℕ) → IsLeftByInterrupt q → (w : WindowState) (queue last : Queue) (P : Queue → Type 0)
+    (met : Option Fault) (wanted : Bool) → queue_at q w ≡ Some queue → met ≡ None
+    → IfSome (queue_at q (after_service (ending_of met) wanted (with_ring q w last))) P → P last
+without_fault q plain w queue last P None wanted at met says = if_some P _ last (rests_there q plain w queue last wanted at) says
+without_fault q plain w queue last P (Some fault) wanted at met says = cc
+
 -- ---- the same of another device
 
 module _ {S T : Type 0} (device : Device S) (other : Device T) (Alike : S → T → Type 0)
@@ -87,13 +94,6 @@ module _ {S T : Type 0} (device : Device S) (other : Device T) (Alike : S → T 
 -- ---- what a call begins with
 
 module _ {State : Type 0} (device : Device State) where
-  at_first : (q : ℕ) → IsLeftByInterrupt q → (w : WindowState) (queue last : Queue) (m : Memory) (met : Option Fault)
-      (wanted : Bool) (s : State) → queue_at q w ≡ Some queue → met ≡ None
-      → WindowRests device q m (after_service (ending_of met) wanted (with_ring q w last)) s → IsAtRest device m last s
-  at_first q plain w queue last m None wanted s at met rests =
-      if_some (λ queue. IsAtRest device m queue s) _ last (rests_there q plain w queue last wanted at) rests
-  at_first q plain w queue last m (Some fault) wanted s at met rests = cc
-
   -- A notification of a guest that stands still, which ends by this fault or none. It is all where the queue rests behind it.
   pub record BeginsNotified (q : ℕ) (old new : Memory) (before after : WindowState) (s s' : State) : Type 0 where
     pub memory : Memory
@@ -119,10 +119,12 @@ module _ {State : Type 0} (device : Device State) where
           state = first.state;
           met = b.met;
           notified = rw at (record { last = first.ring; wanted = b.asked; service = b.service; window = refl });
-          whole = λ rests. all shown b (λ met. at_first q plain before queue first.ring (memory first.sightings) b.met
-              b.asked first.state at met rests);
-          stands = λ stands. all shown b (λ met. stands_first (memory first.sightings) first.ring first.state b.met b.asked
-              b.service at met stands);
+          whole = λ rests. all shown b (λ met. without_fault q plain before queue first.ring
+              (λ queue. IsAtRest device (memory first.sightings) queue first.state) b.met b.asked at met rests);
+          stands = λ stands. all shown b (λ met. rest_behind device (memory old) (memory first.sightings) queue first.ring s
+              first.state b.asked (rw met at b.service)
+              (without_fault q plain before queue first.ring (OfferStands (memory old) (memory first.sightings)) b.met b.asked
+              at met stands));
         }
       where
         all : after ≡ after_service (ending_of (fault_of ending)) wanted (with_ring q before last)
@@ -136,16 +138,6 @@ module _ {State : Type 0} (device : Device State) where
               shown ∙ rw (whole.1, whole.2, ap (λ (site : Site Queue State). site.ring) whole.0) refl,
               ap (λ (site : Site Queue State). site.state) whole.0,
             )
-
-        stands_first : (m : Memory) (last : Queue) (state : State) (met : Option Fault) (wanted : Bool)
-            → IsService queue_kind device (site_at (memory old) queue s) (site_at m last state) (ending_of met) wanted
-            → queue_at q before ≡ Some queue → met ≡ None
-            → WindowStands q (memory old) m (after_service (ending_of met) wanted (with_ring q before last))
-            → IsAtRest device m last state
-        stands_first m last state None wanted service at met stands =
-            let offer = if_some (OfferStands (memory old) m) _ last (rests_there q plain before queue last wanted at) stands in
-            rest_behind device (memory old) m queue last s state wanted service offer
-        stands_first m last state (Some fault) wanted service at met stands = cc
 
     begins_found : (found : Option Queue) → queue_at q before ≡ found
         → racing.Notified device false most q budget found progress.Done old new before after s s'

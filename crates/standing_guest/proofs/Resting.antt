@@ -7,7 +7,7 @@ use Rattle.chain.specs.declared.fault.Fault.{Fault}
 use Rattle.chain.specs.declared.fault.Fault.TheVariants.{Jump}
 use Rattle.chain.specs.declared.state.RingState.{RingState}
 use Rattle.chain.specs.Service.{Device, Entry, IsService, Served, ServesAll, Site, Spent, Works, open_site}
-use Rattle.chain.specs.Setup.{shut}
+use Rattle.chain.specs.Setup.{launched, shut}
 use Rattle.split_ring.specs.Kind.{past}
 use Rattle.split_ring.specs.Ring.{avail_idx, next_taken, on_offer}
 use Rattle.mmio_window.specs.declared.queue.Queue.{Queue}
@@ -34,10 +34,20 @@ offer_past m ring some =
     ap (λ (n : ℕ). (avail_idx m ring + (65536 - n)) % 65536) (step_ahead ring.place ring.ahead)
     ∙ one_less (avail_idx m ring) (next_taken ring) (below_all ring.place ring.ahead) some
 
+-- and so it is behind one that stays in flight
+ahead_one : (place ahead : ℕ) → (place + (ahead + 1)) % 65536 ≡ ((place + ahead) % 65536 + 1) % 65536
+ahead_one place ahead = omega arith
+
+offer_launched : (m : Memory) (ring : RingState) → 0 < on_offer m ring
+    → on_offer m (launched 1 ring) ≡ on_offer m ring - 1
+offer_launched m ring some =
+    ap (λ (n : ℕ). (avail_idx m ring + (65536 - n)) % 65536) (ahead_one ring.place ring.ahead)
+    ∙ one_less (avail_idx m ring) (next_taken ring) (below_all ring.place ring.ahead) some
+
 -- ---- a service
 
 -- so many are on offer in this memory as the service may still take, and with those in flight no more than the queue has
-abbrev Counts : Memory → Queue → Type 0
+abbrev pub Counts : Memory → Queue → Type 0
 Counts m (Split ring) = (on_offer m ring ≡ ring.pending) × (ring.ahead + ring.pending ≤ ring.setup.size)
 Counts m (Packed ring) = ⊤
 
@@ -53,13 +63,21 @@ counts_past takes m n (Split ring) entry ready counts =
     (offer_past m ring offered ∙ ap (λ (n : ℕ). n - 1) counts.0, omega (arith, counts.1, some))
 counts_past takes m n (Packed ring) entry ready counts = tt
 
-counts_all : {State : Type 0} (device : Device State) (m : Memory) (chains : List (Served State)) (a b : Site Queue State)
+pub counts_all : {State : Type 0} (device : Device State) (m : Memory) (chains : List (Served State)) (a b : Site Queue State)
     → Counts m a.ring → ServesAll queue_kind device a chains b → Counts m b.ring
 counts_all {State} device m [] a b counts serves =
     subst (λ (site : Site Queue State). Counts m site.ring) serves counts
 counts_all device m (s ∷ chains) a b counts serves =
     counts_all device m chains _ b
     (counts_past (device.takes a.state) m a.memory a.ring s.entry serves.0.ready counts) serves.1
+
+pub counts_launched : (m n : Memory) (queue : Queue) (entry : Entry) → queue_kind.offers n queue ≡ true → Counts m queue
+    → Counts m (queue_kind.launched queue entry)
+counts_launched m n (Split ring) entry ready counts =
+    let some = some_left true ring.pending ready in
+    let offered : 0 < on_offer m ring = rw counts.0 some in
+    (offer_launched m ring offered ∙ ap (λ (n : ℕ). n - 1) counts.0, omega (arith, counts.1, some))
+counts_launched m n (Packed ring) entry ready counts = tt
 
 no_jump : (jumps : Bool) (offered : ℕ) → (if jumps then Some Jump else None) ≡ None
     → offered ≡ (if jumps then 0 else offered)
@@ -70,7 +88,7 @@ few : (jumps : Bool) (n size : ℕ) → nat_lt size n ≡ jumps → (if jumps th
 few true n size is none = cc
 few false n size is none = grind (arith, nat_tests, is)
 
-counts_opened : (m : Memory) (queue : Queue) → queue_kind.opening_fault m queue ≡ None → Counts m (queue_kind.opened m queue)
+pub counts_opened : (m : Memory) (queue : Queue) → queue_kind.opening_fault m queue ≡ None → Counts m (queue_kind.opened m queue)
 counts_opened m (Split ring) none =
     let jumps = nat_lt ring.setup.size (ring.ahead + on_offer m ring) in
     let is = no_jump jumps (on_offer m ring) none in
@@ -100,7 +118,7 @@ rest_split device old new ring state counts none stands =
       none = rw (same, calm) none;
     }
 
-rest_at : {State : Type 0} (device : Device State) (old new : Memory) (queue : Queue) (m : Memory) (state : State)
+pub rest_at : {State : Type 0} (device : Device State) (old new : Memory) (queue : Queue) (m : Memory) (state : State)
     → Counts old queue → (device.takes state && queue_kind.offers m queue) ≡ false → OfferStands old new (queue_kind.shut queue)
     → IsAtRest device new (queue_kind.shut queue) state
 rest_at device old new (Split ring) m state counts none stands = rest_split device old new ring state counts none stands

@@ -85,7 +85,7 @@ module _ {Ring S T : Type 0} (kind : Kind Ring) (device : Device S) (other : Dev
     pub works : Works kind other fault (moved a t) ending (moved b state)
     pub alike : Alike b.state state
 
-  works_too : (opening met : Option Fault) (a b : Site Ring S) (t : T) → Alike a.state t
+  pub works_too : (opening met : Option Fault) (a b : Site Ring S) (t : T) → Alike a.state t
       → Works kind device opening a (ending_of met) b → AlsoWorks opening a b (ending_of met) t
   works_too (Some fault) met a b t alike w = record {
     state = t;

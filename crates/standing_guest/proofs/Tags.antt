@@ -30,5 +30,9 @@ same_at [] tag = refl
 same_at (x ∷ tags) zero = refl
 same_at (x ∷ tags) (suc tag) = same_at tags tag
 
+pub same_put : (tags : List (Option (InFlight Token))) (tag : ℕ) (asks : Option (InFlight Token))
+    → as_still (set tags tag asks) ≡ set (as_still tags) tag (option_map in_flight asks)
+same_put tags tag asks = map-set (option_map in_flight) tags tag asks
+
 pub same_set : (tags : List (Option (InFlight Token))) (tag : ℕ) → as_still (set tags tag None) ≡ set (as_still tags) tag None
-same_set tags tag = map-set (option_map in_flight) tags tag None
+same_set tags tag = same_put tags tag None

@@ -30,20 +30,17 @@ use Rattle.racing_guest.specs.Guest.{IsSoundGuest, RacingGuest}
 use Rattle.racing_guest.proofs.Telling.{with_ring_same}
 use Rattle.board.specs.declared.event.EventKind.TheVariants.{Host}
 use Rattle.board.specs.declared.reply.Reply.TheVariants.{Done, Idle}
-use Rattle.board.specs.Hosting.{HostGives, LooksAtQueue, dropped, held, hosted_device, hosted_queue, released}
+use Rattle.board.specs.Hosting.{HostGives, dropped, held, hosted_device, hosted_queue, released}
 use Rattle.board.specs.Machine.{at_rest}
 use Rattle.board.specs.Slot.{SlotState}
 use Rattle.standing_guest.specs.Event.{BeginsWith, BlockRests, BlockStands, IsEvent}
-use Rattle.standing_guest.specs.Requests.{TellFindsNone}
 use Rattle.standing_guest.specs.Rest.{WindowRests}
 use Rattle.standing_guest.specs.Slot.{in_flight, slot_of}
 use Rattle.standing_guest.proofs.Block.{own_device}
-use Rattle.standing_guest.proofs.Landing.{is_landing, landed_closed, landed_ready, landed_sound, landed_window, shown_twice}
+use Rattle.standing_guest.proofs.Going.{Tags, queue_of}
+use Rattle.standing_guest.proofs.Landing.{is_landing, landed_closed, landed_ready, landed_sound, landed_stable, landed_window, shown_twice}
 use Rattle.standing_guest.proofs.Looking.{looked, looks_unready}
 use Rattle.standing_guest.proofs.Tags.{as_still, same_any, same_at, same_freed, same_set}
-
-abbrev Tags : Type 0
-Tags = List (Option (InFlight Token))
 
 none_there : {X : Type 0} (o : Option X) → is_some o ≡ false → o ≡ None
 none_there None is = refl
@@ -142,47 +139,51 @@ module _ (A : Type 0) where
 
     -- ---- a release
 
-    released_too : (m : Memory) (w : WindowState) → guest.block.disk.on_hold ≡ true
-        → LooksAtQueue (released state) (record (released state) { memory = m; block = w })
-        → (BlockStands (memory old) (record (released state) { memory = m; block = w })
-        → (memory new ≡ m) × (after.block.window ≡ w)
-        × (after.block.disk ≡ record guest.block.disk { on_hold = false })) → begins Release
-    released_too m w on_hold looks whole = record {
-      first = record (released state) { memory = m; block = w };
-      output = [];
-      event = event Release (record (released state) { memory = m; block = w }) (rw on_hold (looks, refl));
-      whole = λ stands.
-          let all = whole stands in
-          (same m w guest.block.disk.tags false all.0 all.1 all.2, refl);
-    }
-
-    -- ---- a completion
-
-    -- the slot behind a landing
-    abbrev landed_slot : Memory → WindowState → Tags → SlotState
-    landed_slot m w tags = record state {
+    -- the slot, where its queue stands so
+    abbrev stood : SlotState → Memory → WindowState → Tags → SlotState
+    stood state m w tags = record state {
       memory = m;
       block = w;
       host = Some (record { sectors = guest.block.disk.device.extent.count; tags = as_still tags });
     }
 
-    completed_too : (tag : ℕ) (verdict : Verdict) (here : InFlight Token) (tags : Tags) (m1 m2 : Memory)
-        (w1 w2 : WindowState) → get_or guest.block.disk.tags tag None ≡ Some here
-        → still.IsLanding tag verdict (hosted_queue state) (hosted_queue (landed_slot m1 w1 tags))
-        → LooksAtQueue (landed_slot m1 w1 tags) (landed_slot m2 w2 tags)
-        → (BlockRests (landed_slot m2 w2 tags) → (memory new ≡ m2) × (after.block.window ≡ w2)
-        × (after.block.disk ≡ record guest.block.disk { tags = tags })) → begins (Complete tag verdict)
-    completed_too tag verdict here tags m1 m2 w1 w2 there lands looks whole = record {
-      first = landed_slot m2 w2 tags;
+    released_too : (m : Memory) (w : WindowState) (tags : Tags) → guest.block.disk.on_hold ≡ true
+        → hosted.LooksUnless false (hosted_device (released state)) (hosted_queue (released state)) (queue_of m w tags)
+        → (BlockStands (memory old) (stood (released state) m w tags) → (memory new ≡ m) × (after.block.window ≡ w)
+        × (after.block.disk ≡ record guest.block.disk { tags = tags; on_hold = false })) → begins Release
+    released_too m w tags on_hold looks whole = record {
+      first = stood (released state) m w tags;
       output = [];
-      event = event (Complete tag verdict) (landed_slot m2 w2 tags)
+      event = event Release (stood (released state) m w tags) (rw on_hold (record { looks = looks; rest = refl }, refl));
+      whole = λ stands.
+          let all = whole stands in
+          (same m w tags false all.0 all.1 all.2, refl);
+    }
+
+    -- ---- a completion
+
+    completed_too : (tag : ℕ) (verdict : Verdict) (here : InFlight Token) (tags tags' : Tags) (m1 m2 : Memory)
+        (w1 w2 : WindowState) → get_or guest.block.disk.tags tag None ≡ Some here
+        → still.IsLanding tag verdict (hosted_queue state) (hosted_queue (stood state m1 w1 tags))
+        → hosted.LooksUnless guest.block.disk.on_hold (hosted_device (stood state m1 w1 tags))
+        (hosted_queue (stood state m1 w1 tags)) (queue_of m2 w2 tags')
+        → (BlockRests (stood state m2 w2 tags') → (memory new ≡ m2) × (after.block.window ≡ w2)
+        × (after.block.disk ≡ record guest.block.disk { tags = tags' })) → begins (Complete tag verdict)
+    completed_too tag verdict here tags tags' m1 m2 w1 w2 there lands looks whole = record {
+      first = stood state m2 w2 tags';
+      output = [];
+      event = event (Complete tag verdict) (stood state m2 w2 tags')
           (rw (same_at guest.block.disk.tags tag ∙ ap (option_map in_flight) there) (
-            record { landed = landed_slot m1 w1 tags; lands = record { lands = lands; rest = refl }; looks = looks },
+            record {
+              landed = stood state m1 w1 tags;
+              lands = record { lands = lands; rest = refl };
+              looks = record { looks = looks; rest = refl };
+            },
             refl,
           ));
       whole = λ rests.
           let all = whole rests in
-          (same m2 w2 tags guest.block.disk.on_hold all.0 all.1 all.2, refl);
+          (same m2 w2 tags' guest.block.disk.on_hold all.0 all.1 all.2, refl);
     }
 
     -- ---- where the queue can't be served
@@ -193,24 +194,21 @@ module _ (A : Type 0) where
         let disk = guest.block.disk in
         let there = some_there (get_or disk.tags tag None) some in
         let tags = set disk.tags tag None in
-        let slot = landed_slot (memory old) guest.block.window tags in
-        completed_too tag verdict there.here tags (memory old) (memory old) guest.block.window guest.block.window there.is
+        let slot = stood state (memory old) guest.block.window tags in
+        completed_too tag verdict there.here tags tags (memory old) (memory old) guest.block.window guest.block.window there.is
         (record {
           here = in_flight there.here;
           there = same_at disk.tags tag ∙ ap (option_map in_flight) there.is;
           lands = rw at (ap (λ (tags : List (Option still.InFlight)). record (hosted_queue state) { tags = tags })
               (same_set disk.tags tag));
         })
-        (record { looks = looks_unready (hosted_device slot) (hosted_queue slot) disk.on_hold at; rest = refl })
+        (looks_unready (hosted_device slot) (hosted_queue slot) disk.on_hold at)
         (λ rests. (ap memory t.memory, t.window, t.disk))
     unserved Drop some at t = dropped_too guest.block.window some (ap memory t.memory) refl t.window t.disk
     unserved Hold some at t = held_too (not_true guest.block.disk.on_hold some) (ap memory t.memory) t.window t.disk
     unserved Release some at t =
-        released_too (memory old) guest.block.window some
-        (record {
-          looks = looks_unready (hosted_device (released state)) (hosted_queue (released state)) false at;
-          rest = refl;
-        })
+        released_too (memory old) guest.block.window guest.block.disk.tags some
+        (looks_unready (hosted_device (released state)) (hosted_queue (released state)) false at)
         (λ rests. (ap memory t.memory, t.window, t.disk))
 
     -- ---- where it can
@@ -224,9 +222,8 @@ module _ (A : Type 0) where
 
     pub served : (what : HostEvent) (queue : Queue) → has_effect what guest.block.disk ≡ true
         → queue_at 0 guest.block.window ≡ Some queue
-        → (t : TellsBlock what false limits queue old new guest.block after.block progress.Done)
-        → TellFindsNone what (Some queue) limits old new guest.block after.block progress.Done t → begins what
-    served (Complete tag verdict) queue some at t none =
+        → TellsBlock what false limits queue old new guest.block after.block progress.Done → begins what
+    served (Complete tag verdict) queue some at t =
         let disk = guest.block.disk in
         let w = guest.block.window in
         let c = t.disk.queue in
@@ -242,19 +239,17 @@ module _ (A : Type 0) where
         t.disk.left there.tags after.block.disk.tags c.asked
         (landed_sound disk.device tag verdict old w queue limits.budget disk.tags there c.before sound at c.lands)
         (landed_ready disk.device tag verdict old w queue limits.budget disk.tags there c.before sound at c.lands)
+        (landed_stable w ring c.before)
         (landed_closed disk.device tag verdict old w queue limits.budget disk.tags there c.before sound at c.lands)
-        disk.on_hold t.ending (sym t.progress_is) shown c.looks none in
-        completed_too tag verdict c.lands.here there.tags m1 b.memory w1 b.window c.lands.there landing
-        (record {
-          looks = subst (λ (d : BlockDevice). hosted.LooksUnless disk.on_hold d (hosted_queue (landed_slot m1 w1 there.tags))
-              (record { memory = b.memory; window = b.window; tags = as_still there.tags })) device b.looks;
-          rest = refl;
-        })
+        disk.on_hold t.ending (sym t.progress_is) shown c.looks in
+        completed_too tag verdict c.lands.here there.tags b.kept m1 b.memory w1 b.window c.lands.there landing
+        (subst (λ (d : BlockDevice). hosted.LooksUnless disk.on_hold d (hosted_queue (stood state m1 w1 there.tags))
+        (queue_of b.memory b.window b.kept)) device b.looks)
         (λ rests.
         let all = b.whole (subst (λ (d : BlockDevice). WindowRests (hosting.hosted_device d) 0 b.memory b.window tt)
         (sym device) rests) in
         (all.0, all.1, t.disk.is ∙ ap (λ (tags : Tags). record disk { tags = tags }) all.2))
-    served Drop queue some at t none =
+    served Drop queue some at t =
         let idle = t.disk.queue in
         let stands = idle.stands in
         dropped_too (showing guest.block.window t.last t.ending t.wanted) some
@@ -263,7 +258,7 @@ module _ (A : Type 0) where
         idle.ending_is idle.unwanted) t.window
         (t.disk.is ∙ ap (λ (tags : Tags). record guest.block.disk { tags = tags })
         (ap (λ (p : Place Queue Token). p.tags) stands))
-    served Hold queue some at t none =
+    served Hold queue some at t =
         let idle = t.disk.queue in
         let stands = idle.stands in
         held_too (not_true guest.block.disk.on_hold some)
@@ -272,34 +267,29 @@ module _ (A : Type 0) where
         idle.ending_is idle.unwanted)
         (t.disk.is ∙ ap (λ (tags : Tags). record guest.block.disk { tags = tags; on_hold = true })
         (ap (λ (p : Place Queue Token). p.tags) stands))
-    served Release queue some at t none =
+    served Release queue some at t =
         let disk = guest.block.disk in
         let w = guest.block.window in
         let device = own_device disk.device own in
         let b = looked disk.device limits limits.budget (wants_stable w) First old new w after.block.window queue t.last t.disk.left disk.tags
-        after.block.disk.tags t.wanted sound at tt false t.ending (sym t.progress_is) t.window t.disk.queue none in
-        released_too b.memory b.window some
-        (record {
-          looks = subst (λ (d : BlockDevice). hosted.LooksUnless false d (hosted_queue (released state))
-              (record { memory = b.memory; window = b.window; tags = as_still disk.tags })) device b.looks;
-          rest = refl;
-        })
+        after.block.disk.tags t.wanted sound at refl tt false t.ending (sym t.progress_is) t.window t.disk.queue in
+        released_too b.memory b.window b.kept some
+        (subst (λ (d : BlockDevice). hosted.LooksUnless false d (hosted_queue (released state))
+        (queue_of b.memory b.window b.kept)) device b.looks)
         (λ stands.
         let all = b.stands stands in
         (all.0, all.1, t.disk.is ∙ ap (λ (tags : Tags). record disk { tags = tags; on_hold = false }) all.2))
 
     told_by : (what : HostEvent) (found : Option Queue) → has_effect what guest.block.disk ≡ true
         → queue_at 0 guest.block.window ≡ found
-        → (t : IsToldBy what false limits found old new guest.block after.block progress.Done)
-        → TellFindsNone what found limits old new guest.block after.block progress.Done t → begins what
-    told_by what None some at t none = unserved what some at t
-    told_by what (Some queue) some at t none = served what queue some at t none
+        → IsToldBy what false limits found old new guest.block after.block progress.Done → begins what
+    told_by what None some at t = unserved what some at t
+    told_by what (Some queue) some at t = served what queue some at t
 
   pub told_done : (what : HostEvent) (limits : LookLimits) (old new : Sightings) (before after : RacingGuest)
       → IsSoundGuest (memory old) before → before.block.disk.device.extent.start ≡ 0
       → has_effect what before.block.disk ≡ true → after.console ≡ before.console
-      → (t : IsToldBy what false limits (queue_at 0 before.block.window) old new before.block after.block progress.Done)
-      → TellFindsNone what (queue_at 0 before.block.window) limits old new before.block after.block progress.Done t
+      → IsToldBy what false limits (queue_at 0 before.block.window) old new before.block after.block progress.Done
       → BeginsWith {A = A} (slot_of (memory old) before) (Host what) Done (slot_of (memory new) after) [] []
-  told_done what limits old new before after sound own some console t none =
-      told_by limits old new before after sound.block.window own console what (queue_at 0 before.block.window) some refl t none
+  told_done what limits old new before after sound own some console t =
+      told_by limits old new before after sound.block.window own console what (queue_at 0 before.block.window) some refl t

@@ -1,4 +1,3 @@
 pub mod Rest
 pub mod Slot
-pub mod Requests
 pub mod Event

@@ -5,8 +5,6 @@ ghost use Rattle.guest_memory.specs.declared.spec.RegionSpec.{RegionSpec};
 ghost use Rattle.guest_memory.specs.Faults.{zeroed_regions};
 ghost use Rattle.guest_memory.specs.Memory.{Memory};
 ghost use Rattle.chain.specs.declared.budget.Progress.{Progress};
-ghost use Rattle.mmio_window.specs.Window.{queue_at};
-ghost use Rattle.mmio_window.specs.Writing.{action_of, written};
 ghost use Rattle.shared_memory.specs.Sightings.{Sightings, memory};
 ghost use Rattle.block_device.specs.declared.operation.HostEvent.{HostEvent};
 ghost use Rattle.console_device.specs.Input.{fitting};
@@ -17,7 +15,6 @@ ghost use Rattle.racing_guest.specs.declared.reply.GuestWindow.{GuestWindow};
 ghost use Rattle.racing_guest.specs.declared.reply.Reply.{Reply as GuestReply};
 ghost use Rattle.racing_guest.specs.declared.reply.Reply.TheVariants as answer;
 ghost use Rattle.racing_guest.specs.declared.spec.GuestSpec.{GuestSpec};
-ghost use Rattle.racing_guest.specs.Block.{is_notified};
 ghost use Rattle.racing_guest.specs.Console.{with_size};
 ghost use Rattle.racing_guest.specs.Guest.{IsServedAgain, IsSoundGuest, IsTold, RacingGuest, TakesInput, WritesGuest, fresh_guest, register, write_waits};
 ghost use Rattle.board.specs.declared.event.EventKind.{EventKind};
@@ -25,7 +22,6 @@ ghost use Rattle.board.specs.declared.event.SlotWindow.{SlotWindow};
 ghost use Rattle.board.specs.declared.reply.Reply.{Reply};
 ghost use Rattle.board.specs.Slot.{opened, state_of};
 ghost use Rattle.standing_guest.specs.Event.{BeginsRefused, BeginsWith, IsEvent};
-ghost use Rattle.standing_guest.specs.Requests.{TellFindsNone, WriteFindsNone};
 ghost use Rattle.standing_guest.specs.Slot.{IsOwnDisk, slot_of, slot_spec, slot_window};
 
 use std::alloc::Allocator;
@@ -78,25 +74,21 @@ pub fn a_console_that_stands_still_is_a_slots<A: Allocator>()
         → IsEvent {A = A} (slot_of m before) (EventKind.Resize cols rows) (slot_of m after) Reply.Done [] }
 {}
 
-/// The disk of a guest that stands still, where a call is done: a write to its window is one event of the slot, and so is what the
-/// host says, as far as no request is found.
+/// The disk of a guest that stands still, where a call is done: a write to its window begins with that event of the slot, whatever
+/// requests are found, and so does what the host says.
 pub fn a_disk_that_stands_still_is_a_slots<A: Allocator>()
     ensures waits { (m : Memory) (guest : RacingGuest) (offset width value : ℕ) → write_waits GuestWindow.Block offset guest ≡ true
         → IsEvent {A = A} (slot_of m guest) (EventKind.Write SlotWindow.Block offset width value) (slot_of m guest) Reply.Busy [] }
     ensures write { (offset width value : ℕ) (limits : LookLimits) (limit : Option ℕ) (old new : Sightings)
         (before after : RacingGuest) (out out' : List ℕ) → IsSoundGuest (memory old) before → IsOwnDisk before
         → write_waits GuestWindow.Block offset before ≡ false
-        → (writes : WritesGuest GuestWindow.Block offset width value false limits limit old new before after out out' answer.Done)
-        → WriteFindsNone (is_notified (action_of offset width value before.block.window)) limits old new
-        (record before.block { window = written offset width value (memory old) before.block.window }) after.block
-        Progress.Done writes.0
+        → WritesGuest GuestWindow.Block offset width value false limits limit old new before after out out' answer.Done
         → BeginsWith {A = A} (slot_of (memory old) before) (EventKind.Write SlotWindow.Block offset width value) Reply.Done
         (slot_of (memory new) after) out out' }
     ensures nothing { (said : HostEvent) (m : Memory) (guest : RacingGuest) → has_effect said guest.block.disk ≡ false
         → IsEvent {A = A} (slot_of m guest) (EventKind.Host said) (slot_of m guest) Reply.Idle [] }
     ensures told { (said : HostEvent) (limits : LookLimits) (old new : Sightings) (before after : RacingGuest)
         → IsSoundGuest (memory old) before → IsOwnDisk before → has_effect said before.block.disk ≡ true
-        → (is : IsTold said false limits old new before after Progress.Done)
-        → TellFindsNone said (queue_at 0 before.block.window) limits old new before.block after.block Progress.Done is.told
+        → IsTold said false limits old new before after Progress.Done
         → BeginsWith {A = A} (slot_of (memory old) before) (EventKind.Host said) Reply.Done (slot_of (memory new) after) [] [] }
 {}
