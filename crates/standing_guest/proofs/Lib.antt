@@ -17,6 +17,7 @@ pub mod Landing
 pub mod Console
 pub mod Block
 pub mod Telling
+pub mod Again
 pub mod Making
 pub mod Keeping
 pub mod Refusing

@@ -5,6 +5,8 @@ use Rattle.mmio_window.specs.declared.action.Action.{Action}
 use Rattle.mmio_window.specs.declared.action.Action.TheVariants.{Notify}
 use Rattle.block_device.specs.declared.operation.HostEvent.TheVariants.{Complete, Release}
 use Rattle.block_device.specs.Hosting as hosting
+use Rattle.racing_guest.specs.declared.reply.GuestQueue.{GuestQueue}
+use Rattle.racing_guest.specs.declared.reply.GuestQueue.TheVariants as queues
 use Rattle.board.specs.declared.event.EventKind.{EventKind}
 use Rattle.board.specs.declared.event.EventKind.TheVariants.{Host, Input, Write}
 use Rattle.board.specs.declared.event.SlotWindow.{SlotWindow}
@@ -21,6 +23,12 @@ use Rattle.standing_guest.specs.Rest.{WindowRests, WindowStands}
 abbrev pub IsEvent : {A : Type 0} → SlotState → EventKind A → SlotState → Reply A → List ℕ → Type 0
 IsEvent before what after reply output =
     IsNext before what (record { state = after; reply = reply; output = output })
+
+-- A notification of a queue: the write of its number to QueueNotify of its window, at 0x50 (4.2.2).
+abbrev pub notification : {A : Type 0} → GuestQueue → EventKind A
+notification queues.Block = Write Block 0x050 4 0
+notification queues.Receive = Write Console 0x050 4 0
+notification queues.Transmit = Write Console 0x050 4 1
 
 -- ---- the queue that an event serves, behind it
 

@@ -21,7 +21,7 @@ ghost use Rattle.board.specs.declared.event.EventKind.{EventKind};
 ghost use Rattle.board.specs.declared.event.SlotWindow.{SlotWindow};
 ghost use Rattle.board.specs.declared.reply.Reply.{Reply};
 ghost use Rattle.board.specs.Slot.{opened, state_of};
-ghost use Rattle.standing_guest.specs.Event.{BeginsRefused, BeginsWith, IsEvent};
+ghost use Rattle.standing_guest.specs.Event.{BeginsRefused, BeginsWith, IsEvent, notification};
 ghost use Rattle.standing_guest.specs.Slot.{IsOwnDisk, slot_of, slot_spec, slot_window};
 
 use std::alloc::Allocator;
@@ -91,4 +91,13 @@ pub fn a_disk_that_stands_still_is_a_slots<A: Allocator>()
         → IsSoundGuest (memory old) before → IsOwnDisk before → has_effect said before.block.disk ≡ true
         → IsTold said false limits old new before after Progress.Done
         → BeginsWith {A = A} (slot_of (memory old) before) (EventKind.Host said) Reply.Done (slot_of (memory new) after) [] [] }
+{}
+
+/// A queue of a guest that stands still which is served again, where the call is done: the call begins with a notification of that
+/// queue.
+pub fn a_queue_that_is_served_again_is_notified<A: Allocator>()
+    ensures { (queue : GuestQueue) (limits : LookLimits) (limit : Option ℕ) (old new : Sightings) (before after : RacingGuest)
+        (out out' : List ℕ) → IsSoundGuest (memory old) before → IsOwnDisk before
+        → IsServedAgain false limits limit old new before after out out' queue answer.Done
+        → BeginsWith {A = A} (slot_of (memory old) before) (notification queue) Reply.Done (slot_of (memory new) after) out out' }
 {}
