@@ -24,6 +24,7 @@ use Rattle.block_device.specs.Request.{request_of, payload_of}
 use Rattle.block_device.specs.Outcome.{Outcome, with_sectors, completed, Fails, Ends}
 use Rattle.block_device.specs.Device.{block_device, GivesBy}
 use Rattle.mmio_window.specs.Serving.{IsNotified, Notified}
+use Rattle.console_device.specs.Config.{emergency_write}
 use Rattle.console_device.specs.Device.{transmit}
 use Rattle.mmio_window.specs.Configuration.{is_configuration_access, narrowed}
 use Rattle.block_device.specs.Zeroes.{all_sectors, segments_in, zeroed_sectors}
@@ -39,7 +40,7 @@ use Rattle.board.specs.declared.reply.Record.{Record}
 use Rattle.board.specs.Image.{Health, disk_with}
 use Rattle.board.specs.Outcome.{Outcome as Came, replies}
 use Rattle.board.specs.Slot.{SlotState, KeepsBesideDisk, KeepsBesideTransmit}
-use Rattle.board.specs.Task.{task_of, emergency_write, device_of}
+use Rattle.board.specs.Task.{task_of, device_of}
 use Rattle.board.proofs.OnHost.{failing_over_image, lacking_over_image}
 use Rattle.board.specs.World.{World, IsFailedService, IsRefusedTransmit, IsCutShort, IsRefused, MayGive, MayGiveOverImage, SlotStep, MissingStep, Step, KeepsBoard}
 use Rattle.board.proofs.Alone.{slot_step}

@@ -3,6 +3,7 @@ use Rattle.std.proofs.Common.{◌⊎◌, inl, inr, ℕ, zero, suc, ◌%◌, ◌=
 use Rattle.std.specs.Prelude.{if◌then◌else◌, ◌^◌, ⊤}
 use Rattle.mmio_window.specs.declared.action.Action.{Action}
 use Rattle.mmio_window.specs.declared.action.Action.TheVariants as action
+use Rattle.console_device.specs.Config.{emergency_write}
 use Rattle.board.specs.declared.event.SlotWindow.TheVariants.{Block, Console}
 use Rattle.mmio_window.specs.Window.{WindowState}
 use Rattle.board.specs.declared.event.EventKind.{EventKind}
@@ -12,7 +13,7 @@ use Rattle.board.specs.Image.{Health}
 use Rattle.board.specs.Machine.{action_at, with_write}
 use Rattle.board.specs.Outcome.{Outcome, IsDetermined, replies}
 use Rattle.board.specs.Slot.{SlotState}
-use Rattle.board.specs.Task.{Nothing, PutOut, emergency_write, task_of}
+use Rattle.board.specs.Task.{Nothing, PutOut, task_of}
 use Rattle.board.specs.Within.{IsPuttingOut, MayPutOut}
 use Rattle.board.specs.World.{IsCutShort, IsFailedService, IsRefused, IsRefusedTransmit}
 

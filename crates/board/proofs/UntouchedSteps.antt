@@ -7,6 +7,7 @@ use Rattle.std.proofs.lemmas.List.{set-set}
 use Rattle.std.proofs.lemmas.Option.{same_Some}
 use Rattle.guest_memory.specs.Memory.{Memory, SameRange}
 use Rattle.mmio_window.specs.declared.action.Action.TheVariants as action
+use Rattle.console_device.specs.Config.{emergency_write}
 use Rattle.board.specs.declared.event.SlotWindow.{SlotWindow}
 use Rattle.board.specs.declared.event.SlotWindow.TheVariants.{Block, Console}
 use Rattle.mmio_window.specs.declared.register.Register.{Register}
@@ -21,7 +22,7 @@ use Rattle.board.specs.declared.event.EventKind.TheVariants.{Write}
 use Rattle.board.specs.declared.reply.Record.{Record}
 use Rattle.board.specs.Machine.{window_of}
 use Rattle.board.specs.Slot.{SlotState}
-use Rattle.board.specs.Task.{Nothing, PutOut, emergency_write, task_of}
+use Rattle.board.specs.Task.{Nothing, PutOut, task_of}
 use Rattle.board.specs.Untouched.{outcome_over, over_memory, serves_queue, touches_memory, world_over}
 use Rattle.board.specs.World.{SlotStep, Step, World}
 use Rattle.board.proofs.Alone.{slot_step}

@@ -5,12 +5,12 @@ use Rattle.mmio_window.specs.declared.action.Action.{Action}
 use Rattle.mmio_window.specs.declared.action.Action.TheVariants.{Notify, ConfigWrite}
 use Rattle.board.specs.declared.event.SlotWindow.{SlotWindow}
 use Rattle.board.specs.declared.event.SlotWindow.TheVariants.{Block, Console}
-use Rattle.mmio_window.specs.Reading.{configuration_offset}
 use Rattle.mmio_window.specs.Serving.{IsNotified}
 use Rattle.mmio_window.specs.Window.{queue_at}
 use Rattle.sector_cache.specs.Disk.{Disk}
 use Rattle.block_device.specs.declared.device.BlockDevice.{BlockDevice}
 use Rattle.block_device.specs.Device.{exact_device}
+use Rattle.console_device.specs.Config.{emergency_write}
 use Rattle.console_device.specs.Device.{receive, exact_transmit}
 use Rattle.board.specs.declared.reply.Reply.{Reply}
 use Rattle.board.specs.declared.reply.Reply.TheVariants.{Done}
@@ -20,11 +20,6 @@ pub use Rattle.board.specs.declared.task.Task.TheVariants.{Nothing, Serve, PutOu
 use Rattle.board.specs.Image.{Health, sectors_of, disk_with}
 use Rattle.board.specs.Outcome.{Outcome, replies, does, IsDetermined}
 use Rattle.board.specs.Slot.{SlotState}
-
--- where a driver writes to the console without a queue: emerg_wr, behind columns, rows and max_nr_ports
--- (5.3.4)
-abbrev pub emergency_write : ℕ
-emergency_write = configuration_offset + 8
 
 -- what a write to a window of this kind leaves to be done
 abbrev pub task_of : SlotWindow → Action → Task

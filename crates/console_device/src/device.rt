@@ -11,6 +11,7 @@ use crate::no_memory::NoMemory;
 use crate::outlet::Outlet;
 use crate::pending::Pending;
 use byteorder::{ByteOrder, LittleEndian};
+use mmio_window::CONFIGURATION_OFFSET;
 use negotiation::{Features, Flags};
 use std::alloc::{Allocator, Global};
 use std::marker::Model;
@@ -20,6 +21,9 @@ pub const RECEIVEQ: u16 = 0;
 
 /// The queue for output (5.3.2).
 pub const TRANSMITQ: u16 = 1;
+
+/// Where a driver writes to the console's window without a queue: emerg_wr (5.3.4).
+pub const EMERGENCY_WRITE: u16 = CONFIGURATION_OFFSET + 8;
 
 /// A console of one port.
 #[derive(Drop)]

@@ -12,7 +12,7 @@ mod serve;
 mod transmit;
 mod view;
 
-pub use device::{ConsoleDevice, RECEIVEQ, TRANSMITQ};
+pub use device::{ConsoleDevice, EMERGENCY_WRITE, RECEIVEQ, TRANSMITQ};
 pub use laws::{
     a_refused_service_leaves_its_chain, a_service_with_memory_is_exact,
     input_is_taken_from_the_front, one_answer, output_goes_behind,

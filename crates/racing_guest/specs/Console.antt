@@ -12,14 +12,14 @@ use Rattle.mmio_window.specs.declared.action.Action.TheVariants as action
 use Rattle.mmio_window.specs.declared.device_kind.DeviceKind.TheVariants.{Console}
 use Rattle.mmio_window.specs.declared.queue.Queue.{Queue}
 use Rattle.mmio_window.specs.Queue.{queue_kind}
-use Rattle.mmio_window.specs.Reading.{configuration_offset, read_value}
+use Rattle.mmio_window.specs.Reading.{read_value}
 use Rattle.mmio_window.specs.Serving.{after_service}
 use Rattle.mmio_window.specs.Soundness.{IsSound}
 use Rattle.mmio_window.specs.Window.{WindowState, fresh_window, queue_at, with_config_changed, with_ring}
 use Rattle.mmio_window.specs.Writing.{written}
 use Rattle.shared_memory.specs.Sightings.{Sightings}
 use Rattle.console_device.specs.declared.no_memory.NoMemory.{NoMemory}
-use Rattle.console_device.specs.Config.{config_of, console_features}
+use Rattle.console_device.specs.Config.{config_of, console_features, emergency_write}
 use Rattle.console_device.specs.Console as console_device
 use Rattle.console_device.specs.Device.{Fits, MayRefuse, receive, transmit_within}
 use Rattle.console_device.specs.Input.{fitting}
@@ -108,10 +108,6 @@ pub record IsRefused (races : Bool) (limits : Limits) (limit : Option ℕ) (old 
   pub rest : after.device ≡ before.device
 
 -- ---- a write to the window
-
--- where a driver writes to the console without a queue: emerg_wr, behind columns, rows and max_nr_ports (5.3.4)
-abbrev pub emergency_write : ℕ
-emergency_write = configuration_offset + 8
 
 -- Nothing happens but that a byte goes out, or not even that.
 abbrev pub PutsOutIf : Bool → ℕ → Option ℕ → List ℕ → List ℕ → Type 0

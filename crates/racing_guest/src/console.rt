@@ -14,7 +14,7 @@ mod serving;
 use self::serving::{receive, transmit};
 use crate::reply::{GuestQueue, Reply};
 use chain::{Chain, Progress};
-use console_device::{ConsoleDevice, NoMemory, Outlet, RECEIVEQ, TRANSMITQ};
+use console_device::{ConsoleDevice, EMERGENCY_WRITE, NoMemory, Outlet, RECEIVEQ, TRANSMITQ};
 use mmio_window::{Action, DeviceKind, Window};
 use racing_console::{RacingReceive, RacingTransmit};
 use racing_ring::Room;
@@ -22,9 +22,6 @@ use racing_service::Limits;
 use shared_memory::{RangesOf, Shared};
 use std::alloc::{Allocator, Global};
 use std::marker::Model;
-
-/// Where a driver writes to the console without a queue: emerg_wr (5.3.4).
-const EMERGENCY_WRITE: u16 = 0x108;
 
 /// A console (5.3) of a guest that runs on.
 #[derive(Drop)]

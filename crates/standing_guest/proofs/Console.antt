@@ -10,6 +10,7 @@ use Rattle.mmio_window.specs.Serving.{ending_of}
 use Rattle.mmio_window.specs.Soundness.{IsSound}
 use Rattle.mmio_window.specs.Window.{WindowState, queue_at}
 use Rattle.mmio_window.specs.Writing.{action_of}
+use Rattle.console_device.specs.Config.{emergency_write}
 use Rattle.console_device.specs.Console.{Console}
 use Rattle.console_device.specs.Device.{exact_transmit, receive, transmit_within, transmitted}
 use Rattle.console_device.specs.Input.{fitting}
@@ -31,7 +32,7 @@ use Rattle.board.specs.Hosting.{is_block_task}
 use Rattle.board.specs.Machine.{GivesOverImage, IsNext, at_rest, task_at, with_write}
 use Rattle.board.specs.Outcome.{Outcome}
 use Rattle.board.specs.Slot.{SlotState}
-use Rattle.board.specs.Task.{Finishes, IsReceiveService, emergency_write, task_of}
+use Rattle.board.specs.Task.{Finishes, IsReceiveService, task_of}
 use Rattle.standing_guest.specs.Event.{BeginsWith, IsEvent, NotifiedStands, ReceiveStands}
 use Rattle.standing_guest.specs.Slot.{slot_of}
 use Rattle.standing_guest.proofs.Notifying.{begins_notified, first_is_left, notified_too, second_is_left}

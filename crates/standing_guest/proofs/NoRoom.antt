@@ -9,6 +9,7 @@ use Rattle.mmio_window.specs.Serving.{Notified, ending_of}
 use Rattle.mmio_window.specs.Soundness.{IsSound}
 use Rattle.mmio_window.specs.Window.{queue_at}
 use Rattle.mmio_window.specs.Writing.{action_of}
+use Rattle.console_device.specs.Config.{emergency_write}
 use Rattle.console_device.specs.Console.{Console}
 use Rattle.console_device.specs.Device.{exact_transmit, transmit_within}
 use Rattle.shared_memory.specs.Sightings.{Sightings, memory}
@@ -24,7 +25,7 @@ use Rattle.board.specs.declared.reply.Reply.{Reply}
 use Rattle.board.specs.declared.reply.Reply.TheVariants.{Done, NoMemory}
 use Rattle.board.specs.Machine.{at_rest}
 use Rattle.board.specs.Slot.{SlotState}
-use Rattle.board.specs.Task.{Finishes, emergency_write, task_of}
+use Rattle.board.specs.Task.{Finishes, task_of}
 use Rattle.board.specs.Within.{IsPuttingOut, PutsOutWithin}
 use Rattle.standing_guest.specs.Event.{BeginsRefused, NotifiedStands}
 use Rattle.standing_guest.specs.Slot.{slot_of}

@@ -14,12 +14,9 @@ use crate::reply::Reply;
 use crate::slot::Slot;
 use crate::task::Task;
 use block_device::REQUESTQ;
-use console_device::{NoMemory, RECEIVEQ, TRANSMITQ};
+use console_device::{EMERGENCY_WRITE, NoMemory, RECEIVEQ, TRANSMITQ};
 use mmio_window::{Action, CONFIGURATION_OFFSET, Window};
 use std::alloc::Allocator;
-
-/// Where a driver writes to the console without a queue: emerg_wr (5.3.4).
-const EMERGENCY_WRITE: u16 = 0x108;
 
 impl<A: Allocator + Copy> Slot<A> {
     /// What a read of a window gives (4.2.2).
