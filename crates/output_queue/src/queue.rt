@@ -1,6 +1,6 @@
 //! The bytes that wait.
 
-ghost use Rattle.std.specs.Prelude.{◌≡◌, ◌++◌, ◌-◌, ◌≤◌, Some, length, vec_capacity, min, take, drop, IfOk};
+ghost use Rattle.std.specs.Prelude.{◌≡◌, ◌++◌, ◌-◌, ◌≤◌, [], Some, length, vec_capacity, min, take, drop, IfOk};
 ghost use Rattle.output_queue.specs.Waiting.{none_waiting};
 
 use console_device::{NoMemory, Outlet};
@@ -76,6 +76,15 @@ impl<A: Allocator> OutputQueue<A> {
         into[of_first..count].copy_from_slice(&later[..of_later]);
         self.skip(count);
         count
+    }
+
+    /// Takes all bytes away.
+    pub fn clear(&mut self)
+        ensures { self.new ≡ record self.old { bytes = [] } }
+    {
+        self.first.clear();
+        self.later.clear();
+        self.start = 0;
     }
 
     // Takes the first bytes away.
