@@ -1,5 +1,6 @@
 pub mod Cards
 pub mod One
+pub mod Terminals
 pub mod Sound
 pub mod Saved
 pub mod RoundTrip

@@ -5,7 +5,7 @@ use Rattle.guest_memory.specs.Memory.{Memory}
 use Rattle.chain.proofs.Servicing.{Decides, one_decided_service}
 use Rattle.chain.specs.Service.{Device, Ending, HasAtMostOneAnswer, Site}
 use Rattle.mmio_window.specs.declared.action.Action.{Action}
-use Rattle.mmio_window.specs.declared.action.Action.TheVariants.{Notify}
+use Rattle.mmio_window.specs.declared.action.Action.TheVariants.{ConfigWrite, Notify}
 use Rattle.mmio_window.specs.declared.queue.Queue.{Queue}
 use Rattle.mmio_window.specs.Queue.{queue_kind}
 use Rattle.mmio_window.specs.Serving.{NothingHappens, Notified}
@@ -15,16 +15,20 @@ use Rattle.mmio_window.proofs.OneEnd.{HasOneService, one_end}
 use Rattle.mmio_window.proofs.QueueKind.{has_at_most_one_chain}
 use Rattle.entropy_device.specs.Device.{entropy}
 use Rattle.entropy_device.proofs.Services.{once as entropy_once}
+use Rattle.console_device.specs.Device.{receive as receive_input, transmit_within}
+use Rattle.console_device.proofs.Deciding.{within_decides}
+use Rattle.console_device.proofs.Services.{receive_once as input_once, within_once}
 use Rattle.network_device.specs.Device.{Passing, passing, receive, transmit}
 use Rattle.network_device.proofs.Answering.{receive_once, transmit_once}
 use Rattle.block_device.specs.declared.operation.HostEvent.{HostEvent}
 use Rattle.hosted_disk.specs.Disk.{HostedDisk}
 use Rattle.hosted_disk.specs.Told.{DoesAsTold}
 use Rattle.hosted_disk.proofs.One.{serve_disk, tell_disk}
-use Rattle.device_list.specs.Card.{Card, ReceivesFrames, ServesCard, TransmitsFrames, card_limits, kept_behind, with_frame, without_oldest}
-use Rattle.device_list.specs.Device.{DeviceState, Finishes, Receives, ServesAfter, Supplies, TakesSent, Told, Writes}
+use Rattle.device_list.specs.Card.{Card, ReceivesFrames, ServesCard, TransmitsFrames, card_limits, kept_behind, with_frame}
+use Rattle.device_list.specs.Device.{DeviceState, Finishes, IsConfigured, Receives, ServesAfter, Supplies, TakesSent, Told, Writes}
 use Rattle.device_list.specs.List.{At}
-use Rattle.device_list.specs.Model.{ModelState, Entropy, Network as NetworkModel, Block as BlockModel, Serves, supplied_model, with_card}
+use Rattle.device_list.specs.Model.{ModelState, Entropy, Network as NetworkModel, Block as BlockModel, Console as ConsoleModel, Serves, supplied_model, with_card, without_sent}
+use Rattle.device_list.specs.Terminal.{ReceivesInput, ServesTerminal, Terminal, TransmitsOutput, terminal_limit}
 use Rattle.device_list.proofs.Cards.{receive_decides, transmit_decides}
 
 -- a device that decides has one service
@@ -101,6 +105,47 @@ card_once card zero m n o u v w one other a b = receives_once card m n o u v w o
 card_once card (suc zero) m n o u v w one other a b = transmits_once card m n o u v w one other a b
 card_once card (suc (suc q)) m n o u v w one other a b = neither_happens m n o u v w card one other a b
 
+-- ---- a console
+
+inputs_once : (terminal : Terminal) (m n o : Memory) (u v w : WindowState) (one other : Terminal)
+    → ReceivesInput terminal m n u v one → ReceivesInput terminal m o u w other → AreOne n o v w one other
+inputs_once terminal m n o u v w one other a b =
+    let start = terminal.console.pending in
+    let decides : Decides receive_input = record { never_both = λ s readable k g gives lacks. lacks } in
+    let end = one_end receive_input 0 (queue_at 0 u) m n o u v w start a.left b.left
+    (one_service receive_input input_once decides start) a.notified b.notified in
+    record {
+      memory = end.memory;
+      window = end.window;
+      state = a.is ∙ ap made end.state ∙ sym b.is;
+    }
+  where
+    made : List ℕ → Terminal
+    made left = record terminal { console = record terminal.console { pending = left } }
+
+outputs_once : (terminal : Terminal) (m n o : Memory) (u v w : WindowState) (one other : Terminal)
+    → TransmitsOutput terminal m n u v one → TransmitsOutput terminal m o u w other → AreOne n o v w one other
+outputs_once terminal m n o u v w one other a b =
+    let device = transmit_within (Some terminal_limit) in
+    let end = one_end device 1 (queue_at 1 u) m n o u v w terminal.waiting a.out b.out
+    (one_service device (within_once (Some terminal_limit)) (within_decides terminal_limit) terminal.waiting)
+    a.notified b.notified in
+    record {
+      memory = end.memory;
+      window = end.window;
+      state = a.is ∙ ap made end.state ∙ sym b.is;
+    }
+  where
+    made : List ℕ → Terminal
+    made out = record terminal { waiting = out }
+
+terminal_once : (terminal : Terminal) (q : ℕ) (m n o : Memory) (u v w : WindowState) (one other : Terminal)
+    → ServesTerminal terminal q m n u v one → ServesTerminal terminal q m o u w other → AreOne n o v w one other
+terminal_once terminal zero m n o u v w one other a b = inputs_once terminal m n o u v w one other a b
+terminal_once terminal (suc zero) m n o u v w one other a b = outputs_once terminal m n o u v w one other a b
+terminal_once terminal (suc (suc q)) m n o u v w one other a b =
+    neither_happens m n o u v w terminal one other a b
+
 -- ---- a device, whichever it is
 
 serves_once : (model : ModelState) (q : ℕ) (m n o : Memory) (u v w : WindowState) (one other : ModelState)
@@ -118,12 +163,26 @@ serves_once (NetworkModel card) q m n o u v w one other a b =
 serves_once (BlockModel disk) q m n o u v w one other a b =
     let same = serve_disk disk a.after b.after q m n o u v w a.serves b.serves in
     record { memory = same.memory; window = same.window; state = a.is ∙ ap BlockModel same.disk ∙ sym b.is }
+serves_once (ConsoleModel terminal) q m n o u v w one other a b =
+    let same = terminal_once terminal q m n o u v w a.after b.after a.serves b.serves in
+    record { memory = same.memory; window = same.window; state = a.is ∙ ap ConsoleModel same.state ∙ sym b.is }
+
+configures_once : (offset value : ℕ) (m n o : Memory) (old one other : DeviceState)
+    → IsConfigured offset value m n old one → IsConfigured offset value m o old other
+    → AreOne n o one.window other.window one.model other.model
+configures_once offset value m n o old one other a b = record {
+  memory = a.memory ∙ sym b.memory;
+  window = ap (λ (d : DeviceState). d.window) (a.is ∙ sym b.is);
+  state = ap (λ (d : DeviceState). d.model) (a.is ∙ sym b.is);
+}
 
 finishes_once : (action : Action) (m n o : Memory) (old one other : DeviceState)
     → Finishes action m n old one → Finishes action m o old other
     → AreOne n o one.window other.window one.model other.model
 finishes_once (Notify q) m n o old one other a b =
     serves_once old.model q m n o old.window one.window other.window one.model other.model a b
+finishes_once (ConfigWrite offset width value) m n o old one other a b =
+    configures_once offset value m n o old one other a b
 finishes_once _ m n o old one other a b =
     neither_happens m n o old.window one.window other.window old.model one.model other.model a b
 
@@ -176,7 +235,7 @@ reception_once frame = after_once (with_card (with_frame frame)) 0
 
 pub taking_once : (i : ℕ) (m n o : Memory) (old new new' : List DeviceState) → At TakesSent i m n old new
     → At TakesSent i m o old new' → (n ≡ o) × (new ≡ new')
-taking_once = after_once (with_card without_oldest) 1
+taking_once = after_once without_sent 1
 
 -- and what the host says of a disk
 told_once : (said : HostEvent) (m n o : Memory) (old one other : DeviceState) → Told said m n old one

@@ -8,8 +8,9 @@ use Rattle.mmio_window.specs.Saved.{saved_window, window_restored}
 use Rattle.mmio_window.specs.declared.saved.SavedWindow.{SavedWindow}
 use Rattle.mmio_window.specs.Soundness.{IsSound}
 use Rattle.mmio_window.specs.Window.{WindowState}
-use Rattle.std.proofs.lemmas.Bool.{lt-leb}
+use Rattle.std.proofs.lemmas.Bool.{le-leb, lt-leb}
 use Rattle.snapshot.specs.declared.saved.SavedDevice.{SavedDevice}
+use Rattle.device_list.specs.declared.spec.AddRefusal.TheVariants.{BadDisk, BadMtu, TooMany}
 use Rattle.device_list.specs.declared.spec.DeviceSpec.{DeviceSpec}
 use Rattle.device_list.specs.Device.{DeviceState, IsSoundDevice}
 use Rattle.device_list.specs.List.{AreSoundDevices, are_at_work, refusal_of}
@@ -26,6 +27,12 @@ behind_first xs = take (length xs - 1) (drop 1 xs)
 
 pub behind_is : {A : Type 0} (x : A) (xs : List A) → behind_first (x ∷ xs) ≡ xs
 behind_is x xs = let len : length (x ∷ xs) - 1 ≡ length xs = omega arith in rw len (all_taken xs)
+
+-- the others are fewer
+pub others_fewer : (devices : List DeviceState) (n : ℕ) → n ≡ length devices → 1 ≤ length devices
+    → length (behind_first devices) < n
+others_fewer [] n is some = absurd (omega arith)
+others_fewer (d ∷ ds) n is some = rw (behind_is d ds) (omega (arith, is))
 
 -- the first suits: all suit where the others do
 pub suits_more : (ss : List SavedDevice) (ds : List DeviceState) (s : SavedDevice) (d : DeviceState) (r : Bool)
@@ -61,6 +68,22 @@ pub not_refused : (devices : List DeviceState) (spec : DeviceSpec) (n : ℕ) →
     → has_bad_mtu spec ≡ false → has_bad_disk spec ≡ false → refusal_of devices spec ≡ None
 not_refused devices spec n is few fits may =
     let room : nat_le 6 (length devices) ≡ false = lt-leb _ _ (omega (arith, is, few)) in rw (room, fits, may) refl
+
+-- and else it isn't, for the first cause that there is
+pub too_many : (devices : List DeviceState) (spec : DeviceSpec) (n : ℕ) → n ≡ length devices → 6 ≤ n
+    → refusal_of devices spec ≡ Some TooMany
+too_many devices spec n is many =
+    let full : nat_le 6 (length devices) ≡ true = le-leb _ _ (omega (arith, is, many)) in rw (full) refl
+
+pub bad_mtu : (devices : List DeviceState) (spec : DeviceSpec) (n : ℕ) → n ≡ length devices → n < 6
+    → has_bad_mtu spec ≡ true → refusal_of devices spec ≡ Some BadMtu
+bad_mtu devices spec n is few bad =
+    let room : nat_le 6 (length devices) ≡ false = lt-leb _ _ (omega (arith, is, few)) in rw (room, bad) refl
+
+pub bad_disk : (devices : List DeviceState) (spec : DeviceSpec) (n : ℕ) → n ≡ length devices → n < 6
+    → has_bad_mtu spec ≡ false → has_bad_disk spec ≡ true → refusal_of devices spec ≡ Some BadDisk
+bad_disk devices spec n is few fits bad =
+    let room : nat_le 6 (length devices) ≡ false = lt-leb _ _ (omega (arith, is, few)) in rw (room, fits, bad) refl
 
 -- ---- an element
 

@@ -4,20 +4,18 @@ use Rattle.std.specs.Prelude.{◌<◌, [], ◌∷◌, ◌++◌, Bool, true, fals
 use Rattle.std.proofs.lemmas.List.Elements.{All-get_or, All-push, All-set, All-weaker}
 use Rattle.guest_memory.specs.Memory.{Memory, SameRange}
 use Rattle.mmio_window.proofs.Soundness.{IsSound-same_range}
-use Rattle.mmio_window.specs.declared.action.Action.{Action}
-use Rattle.mmio_window.specs.declared.action.Action.TheVariants.{Notify}
 use Rattle.mmio_window.proofs.Devices.{KeepsDevice, KeepsDevice-written}
 use Rattle.mmio_window.specs.Soundness.{IsSound}
 use Rattle.mmio_window.specs.Window.{WindowState}
-use Rattle.mmio_window.specs.Writing.{action_of, written}
+use Rattle.mmio_window.specs.Writing.{written}
 use Rattle.device_list.specs.declared.spec.DeviceSpec.{DeviceSpec}
-use Rattle.device_list.specs.Device.{DeviceState, Finishes, IsSoundDevice, Writes, fresh_device}
+use Rattle.device_list.specs.Device.{DeviceState, IsSoundDevice, fresh_device}
 use Rattle.device_list.specs.List.{AreSoundDevices}
 use Rattle.hosted_disk.specs.Disk.{fresh_disk}
 use Rattle.hosted_disk.proofs.Flights.{idle_held, keeps_all, none_taken, still_held, written_held}
 use Rattle.device_list.specs.Card.{Card}
 use Rattle.device_list.specs.declared.spec.DeviceSpec.TheVariants as spec
-use Rattle.device_list.specs.Model.{ModelState, Block, Entropy, Network, IsHeld, card_of, features_of, fresh_model, is_at_work, kind_of, must_wait, with_card}
+use Rattle.device_list.specs.Model.{ModelState, Block, Console, Entropy, Network, IsHeld, card_of, features_of, fresh_model, is_at_work, kind_of, must_wait, with_card}
 
 -- a device that was sound is so with this window and this model
 pub made_sound : (m m' : Memory) (d : DeviceState) (w : WindowState) (model : ModelState) → IsSoundDevice m d
@@ -39,12 +37,14 @@ held_over : (m m' : Memory) (w : WindowState) (model : ModelState) → SameRange
 held_over m m' w (Block disk) range held = still_held m m' w w disk range (keeps_all w) held
 held_over m m' w (Entropy pool) range held = tt
 held_over m m' w (Network card) range held = tt
+held_over m m' w (Console terminal) range held = tt
 
 -- and where nothing is in flight
 pub held_idle : (m : Memory) (w : WindowState) (model : ModelState) → is_at_work model ≡ false → IsHeld m w model
 held_idle m w (Block disk) idle = idle_held m w disk idle
 held_idle m w (Entropy pool) idle = tt
 held_idle m w (Network card) idle = tt
+held_idle m w (Console terminal) idle = tt
 
 -- behind a write that doesn't wait
 pub held_written : (offset width value : ℕ) (m : Memory) (w : WindowState) (model : ModelState)
@@ -52,6 +52,7 @@ pub held_written : (offset width value : ℕ) (m : Memory) (w : WindowState) (mo
 held_written offset width value m w (Block disk) free held = written_held offset width value m w disk free held
 held_written offset width value m w (Entropy pool) free held = tt
 held_written offset width value m w (Network card) free held = tt
+held_written offset width value m w (Console terminal) free held = tt
 
 -- in a window as after a reset
 held_fresh : (m : Memory) (w : WindowState) (spec : DeviceSpec) → IsHeld m w (fresh_model spec)
@@ -59,6 +60,7 @@ held_fresh m w spec.Entropy = tt
 held_fresh m w (spec.Network mac mtu) = tt
 held_fresh m w (spec.Block sectors read_only identity depth) =
     idle_held m w (fresh_disk sectors read_only identity depth) (none_taken depth)
+held_fresh m w (spec.Console cols rows) = tt
 
 -- and a card has nothing in flight
 pub held_card : (change : Card → Card) (m : Memory) (w : WindowState) (model : ModelState)
@@ -66,6 +68,7 @@ pub held_card : (change : Card → Card) (m : Memory) (w : WindowState) (model :
 held_card change m w (Network card) is = tt
 held_card change m w (Entropy pool) is = absurd (cc is)
 held_card change m w (Block disk) is = absurd (cc is)
+held_card change m w (Console terminal) is = absurd (cc is)
 
 pub sound_over : (m m' : Memory) (d : DeviceState) → SameRange m m' → IsSoundDevice m d → IsSoundDevice m' d
 sound_over m m' d range sound = record {
@@ -75,7 +78,7 @@ sound_over m m' d range sound = record {
   held = held_over m m' d.window d.model range sound.held;
 }
 
--- a write leaves a device's window its device's
+-- a write that doesn't wait leaves a device's window its device's
 pub written_sound : (m m' : Memory) (d : DeviceState) (offset width value : ℕ) (u w : WindowState)
     (model : ModelState) → u ≡ written offset width value m d.window → IsSoundDevice m d
     → w.kind ≡ u.kind → w.negotiation.offered ≡ u.negotiation.offered
@@ -86,19 +89,6 @@ written_sound m m' d offset width value u w model is sound kind offered same_kin
     let now = subst (λ (v : WindowState). KeepsDevice d.window v) (sym is) keeps in
     made_sound m m' d w model sound (kind ∙ now.kind) (offered ∙ now.offered) (sym same_kind)
     (sym same_features) here held
-
--- a write that notifies no queue leaves nothing to be done
-finishes_quiet : (action : Action) (m : Memory) (d : DeviceState) → ((q : ℕ) → action ≡ Notify q → ⊥)
-    → Finishes action m m d d
-finishes_quiet (Notify q) m d never = absurd (never q refl)
-finishes_quiet _ m d never = record { memory = refl; window = refl; state = refl }
-
-pub writes_quiet : (offset width value : ℕ) (m : Memory) (d : DeviceState) (w : WindowState) (action : Action)
-    → action ≡ action_of offset width value d.window → w ≡ written offset width value m d.window
-    → ((q : ℕ) → action ≡ Notify q → ⊥) → Writes offset width value m m d (record d { window = w })
-writes_quiet offset width value m d w action does is never =
-    rw (is) (finishes_quiet (action_of offset width value d.window) m
-    (record d { window = written offset width value m d.window }) (λ q notifies. never q (does ∙ notifies)))
 
 -- where one of them changed, and the memory with it
 pub all_sound : (m m' : Memory) (devices : List DeviceState) (i : ℕ) (d : DeviceState) → SameRange m m'

@@ -2,18 +2,19 @@
 use Rattle.std.specs.Prelude.{◌≡◌, ℕ, Bool, Option, List}
 use Rattle.guest_memory.specs.Memory.{Memory}
 use Rattle.mmio_window.specs.declared.action.Action.{Action}
-use Rattle.mmio_window.specs.declared.action.Action.TheVariants.{Notify}
+use Rattle.mmio_window.specs.declared.action.Action.TheVariants.{ConfigWrite, Notify}
 use Rattle.mmio_window.specs.Reading.{read_value}
 use Rattle.mmio_window.specs.Serving.{NothingHappens}
 use Rattle.mmio_window.specs.Soundness.{IsSound}
 use Rattle.mmio_window.specs.Window.{WindowState, fresh_window, with_config_changed}
 use Rattle.mmio_window.specs.Writing.{action_of, written}
 use Rattle.device_list.specs.declared.spec.DeviceSpec.{DeviceSpec}
-use Rattle.device_list.specs.Card.{with_frame, with_link, without_oldest}
+use Rattle.device_list.specs.Card.{with_frame, with_link}
 use Rattle.block_device.specs.declared.operation.HostEvent.{HostEvent}
 use Rattle.hosted_disk.specs.Disk.{HostedDisk}
 use Rattle.hosted_disk.specs.Told.{DoesAsTold}
-use Rattle.device_list.specs.Model.{ModelState, Block, IsHeld, Serves, config_of, features_of, fresh_model, kind_of, supplied_model, taken_of, with_card}
+use Rattle.device_list.specs.Model.{ModelState, Block, IsHeld, Serves, config_of, configured, features_of, fresh_model, kind_of, supplied_model, taken_of, with_card, with_terminal, without_sent}
+use Rattle.device_list.specs.Terminal.{with_size}
 
 -- a device: its window, and what stands behind it
 pub record DeviceState : Type 0 where
@@ -43,9 +44,16 @@ register_of offset width d = read_value offset width (config_of d.model) d.windo
 abbrev pub ServesDevice : ℕ → Memory → Memory → DeviceState → DeviceState → Type 0
 ServesDevice q m m' d d' = Serves d.model q m m' d.window d'.window d'.model
 
--- what a write of its window leaves to be done: a queue that is notified is served, and nothing else is done
+-- its configuration is written: that leaves its window and the memory alone
+pub record IsConfigured (offset value : ℕ) (m m' : Memory) (d d' : DeviceState) : Type 0 where
+  pub memory : m' ≡ m
+  pub is : d' ≡ record d { model = configured offset value d.model }
+
+-- what a write of its window leaves to be done: a queue that is notified is served, the device takes a write to its
+-- configuration, and nothing else is done
 abbrev pub Finishes : Action → Memory → Memory → DeviceState → DeviceState → Type 0
 Finishes (Notify q) m m' d d' = ServesDevice q m m' d d'
+Finishes (ConfigWrite offset width value) m m' d d' = IsConfigured offset value m m' d d'
 Finishes action m m' d d' = NothingHappens m m' d.window d'.window d.model d'.model
 
 -- A driver writes to the window: its registers are written, and then the device does its part.
@@ -70,15 +78,22 @@ Supplies bytes = ServesAfter (λ model. supplied_model model bytes) 0
 abbrev pub Receives : List ℕ → Memory → Memory → DeviceState → DeviceState → Type 0
 Receives frame = ServesAfter (with_card (with_frame frame)) 0
 
--- The host takes the oldest frame that waits for it: the card then serves its transmit queue, since it has room.
+-- The host takes what the driver sent: the device then serves its transmit queue, since it has room.
 abbrev pub TakesSent : Memory → Memory → DeviceState → DeviceState → Type 0
-TakesSent = ServesAfter (with_card without_oldest) 1
+TakesSent = ServesAfter without_sent 1
 
 -- The link of a card goes up or down: its configuration changed (5.1.4).
 abbrev pub linked : Bool → DeviceState → DeviceState
 linked up d = record {
   window = with_config_changed d.window;
   model = with_card (with_link up) d.model;
+}
+
+-- A console gets another size: its configuration changed (5.3.4).
+abbrev pub resized : ℕ → ℕ → DeviceState → DeviceState
+resized cols rows d = record {
+  window = with_config_changed d.window;
+  model = with_terminal (with_size cols rows) d.model;
 }
 
 -- The host says this of the disk that it serves: it does as it is told.

@@ -3,3 +3,4 @@ pub mod Device
 pub mod List
 pub mod Model
 pub mod Saved
+pub mod Terminal

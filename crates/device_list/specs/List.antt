@@ -11,7 +11,8 @@ use Rattle.device_list.specs.declared.spec.DeviceSpec.{DeviceSpec}
 use Rattle.device_list.specs.Card.{Card}
 use Rattle.device_list.specs.Device.{DeviceState, IsSoundDevice}
 use Rattle.hosted_disk.specs.Disk.{HostedDisk}
-use Rattle.device_list.specs.Model.{card_of, disk_of, has_bad_disk, has_bad_mtu, is_at_work, is_starving, must_wait}
+use Rattle.device_list.specs.Model.{card_of, disk_of, has_bad_disk, has_bad_mtu, is_at_work, is_starving, must_wait, outgoing_of, terminal_of}
+use Rattle.device_list.specs.Terminal.{Terminal}
 
 -- each device is sound for the memory
 abbrev pub AreSoundDevices : Memory → List DeviceState → Type 0
@@ -33,6 +34,19 @@ changed_at change n devices = option_map_or (λ d. slice_set devices n (change d
 -- the network card of this number, if there is one
 abbrev pub card_at : ℕ → List DeviceState → Option Card
 card_at n devices = option_and_then (λ d. card_of d.model) (slice_get devices n)
+
+-- the console of this number, if there is one
+abbrev pub terminal_at : ℕ → List DeviceState → Option Terminal
+terminal_at n devices = option_and_then (λ d. terminal_of d.model) (slice_get devices n)
+
+-- What the driver of the device of this number sent that its host takes now, if any of it waits. There is no answer where
+-- there is no such device, or its driver sends nothing.
+abbrev pub outgoing_at : ℕ → List DeviceState → Option (Option (List ℕ))
+outgoing_at n devices = option_and_then (λ d. outgoing_of d.model) (slice_get devices n)
+
+-- the same where it is all one why there is nothing to take
+abbrev pub sent_by : ℕ → List DeviceState → Option (List ℕ)
+sent_by n devices = option_and_then (λ waits. waits) (outgoing_at n devices)
 
 -- the disk of this number, if there is one
 abbrev pub disk_at : ℕ → List DeviceState → Option HostedDisk

@@ -1,5 +1,6 @@
 -- What stands behind a device's window, by the type of device.
 use Rattle.std.specs.Prelude.{◌≡◌, ◌+◌, ◌^◌, ◌==◌, ◌||◌, ⊤, ℕ, zero, suc, nat_le, nat_lt, Bool, false, Option, Some, None, List, [], replicate}
+use Rattle.std.specs.Option.{option_and_then}
 use Rattle.guest_memory.specs.Memory.{Memory}
 use Rattle.mmio_window.specs.declared.device_kind.DeviceKind.{DeviceKind}
 use Rattle.mmio_window.specs.declared.device_kind.DeviceKind.TheVariants as kind
@@ -10,6 +11,8 @@ use Rattle.entropy_device.specs.Device.{entropy}
 use Rattle.entropy_device.specs.Pool.{fitting, supplied}
 use Rattle.entropy_device.specs.Waiting.{is_starved}
 use Rattle.network_device.specs.Config as network
+use Rattle.console_device.specs.Config as console
+use Rattle.console_device.specs.Input as console_input
 use Rattle.block_device.specs.Config as block
 use Rattle.block_device.specs.Flights.{is_any}
 use Rattle.hosted_disk.specs.Disk as hosted
@@ -18,19 +21,22 @@ use Rattle.device_list.specs.declared.model.DeviceModel.{DeviceModel}
 use Rattle.device_list.specs.declared.model.DeviceModel.TheVariants as model
 use Rattle.device_list.specs.declared.spec.DeviceSpec.{DeviceSpec}
 use Rattle.device_list.specs.declared.spec.DeviceSpec.TheVariants as spec
-use Rattle.device_list.specs.Card.{Card, ServesCard, fresh_card, is_card_starving}
+use Rattle.device_list.specs.Card.{Card, ServesCard, fresh_card, is_card_starving, oldest_of, without_oldest}
+use Rattle.device_list.specs.Terminal.{Terminal, ServesTerminal, fresh_terminal, is_terminal_starving, output_of, terminal_configured, with_typed, without_output}
 
--- an entropy device with its pool, a network card, or a disk that the host serves
+-- an entropy device with its pool, a network card, a disk that the host serves, or a console
 pub data ModelState : Type 0 where
   Entropy : List ℕ → ModelState
   Network : Card → ModelState
   Block : HostedDisk → ModelState
+  Console : Terminal → ModelState
 
 -- the same, wherever its memory is from
 abbrev pub state_of : {A : Type 0} → DeviceModel A → ModelState
 state_of (model.Entropy pool) = Entropy pool
 state_of (model.Network card) = Network card
 state_of (model.Block disk) = Block disk
+state_of (model.Console terminal) = Console terminal
 
 -- whether a device is to have an MTU that is below the least (5.1.4.1)
 abbrev pub has_bad_mtu : DeviceSpec → Bool
@@ -47,24 +53,28 @@ abbrev pub fresh_model : DeviceSpec → ModelState
 fresh_model spec.Entropy = Entropy []
 fresh_model (spec.Network mac mtu) = Network (fresh_card mac mtu)
 fresh_model (spec.Block sectors read_only identity depth) = Block (fresh_disk sectors read_only identity depth)
+fresh_model (spec.Console cols rows) = Console (fresh_terminal cols rows)
 
 -- the type of device
 abbrev pub kind_of : ModelState → DeviceKind
 kind_of (Entropy pool) = kind.Entropy
 kind_of (Network card) = kind.Network
 kind_of (Block disk) = kind.Block
+kind_of (Console terminal) = kind.Console
 
 -- the features that it offers: an entropy device has none of its own (5.4.3)
 abbrev pub features_of : ModelState → ℕ
 features_of (Entropy pool) = device_features
 features_of (Network card) = network.offered + device_features
 features_of (Block disk) = block.block_features disk.device.read_only
+features_of (Console terminal) = console.console_features
 
 -- its configuration space: an entropy device has no fields (5.4.4)
 abbrev pub config_of : ModelState → List ℕ
 config_of (Entropy pool) = replicate 64 0
 config_of (Network card) = network.config_of card.network.configuration
 config_of (Block disk) = block.config_of disk.device.extent.count
+config_of (Console terminal) = console.config_of terminal.console.cols terminal.console.rows
 
 -- The pool's bytes go into the chains on offer (5.4.6).
 pub record FillsChains (pool : List ℕ) (m m' : Memory) (w w' : WindowState) (model' : ModelState) : Type 0 where
@@ -86,22 +96,37 @@ pub record ServesAsDisk (disk : HostedDisk) (q : ℕ) (m m' : Memory) (w w' : Wi
   pub serves : ServesDisk disk q m m' w w' after
   pub is : model' ≡ Block after
 
+-- A console serves its queue of this number.
+pub record ServesAsTerminal (terminal : Terminal) (q : ℕ) (m m' : Memory) (w w' : WindowState)
+    (model' : ModelState) : Type 0 where
+  pub after : Terminal
+  pub serves : ServesTerminal terminal q m m' w w' after
+  pub is : model' ≡ Console after
+
 -- what a device does whose queue of this number is notified
 abbrev pub Serves : ModelState → ℕ → Memory → Memory → WindowState → WindowState → ModelState → Type 0
 Serves (Entropy pool) zero m m' w w' model' = FillsChains pool m m' w w' model'
 Serves (Entropy pool) (suc q) m m' w w' model' = NothingHappens m m' w w' (Entropy pool) model'
 Serves (Network card) q m m' w w' model' = ServesAsCard card q m m' w w' model'
 Serves (Block disk) q m m' w w' model' = ServesAsDisk disk q m m' w w' model'
+Serves (Console terminal) q m m' w w' model' = ServesAsTerminal terminal q m m' w w' model'
 
--- how many bytes a device takes of those that its host supplies: the first ones that fit. Another than an entropy
--- device takes none.
+-- The device once this value was written at this offset of its window's configuration: a console may take it.
+abbrev pub configured : ℕ → ℕ → ModelState → ModelState
+configured offset value (Console terminal) = Console (terminal_configured offset value terminal)
+configured offset value model = model
+
+-- how many bytes a device takes of those that its host supplies, random ones or input: the first ones that fit. Another
+-- than an entropy device or a console takes none.
 abbrev pub taken_of : ModelState → List ℕ → Option ℕ
 taken_of (Entropy pool) bytes = Some (fitting pool bytes)
+taken_of (Console terminal) bytes = Some (console_input.fitting terminal.console.pending bytes)
 taken_of model bytes = None
 
 -- and the device that took them
 abbrev pub supplied_model : ModelState → List ℕ → ModelState
 supplied_model (Entropy pool) bytes = Entropy (supplied pool bytes)
+supplied_model (Console terminal) bytes = Console (with_typed bytes terminal)
 supplied_model model bytes = model
 
 -- the network card that it is, if it is one
@@ -114,11 +139,39 @@ abbrev pub with_card : (Card → Card) → ModelState → ModelState
 with_card change (Network card) = Network (change card)
 with_card change model = model
 
+-- the console that it is, if it is one
+abbrev pub terminal_of : ModelState → Option Terminal
+terminal_of (Console terminal) = Some terminal
+terminal_of model = None
+
+-- the device with its console changed so, if it has one
+abbrev pub with_terminal : (Terminal → Terminal) → ModelState → ModelState
+with_terminal change (Console terminal) = Console (change terminal)
+with_terminal change model = model
+
+-- What the driver sent that the host takes now, if any of it waits: the oldest frame of a card, or all output of a console.
+-- There is no answer of a device whose driver sends nothing.
+abbrev pub outgoing_of : ModelState → Option (Option (List ℕ))
+outgoing_of (Network card) = Some (oldest_of card)
+outgoing_of (Console terminal) = Some (output_of terminal)
+outgoing_of model = None
+
+-- the same where it is all one whether nothing waits or nothing is sent
+abbrev pub sent_of : ModelState → Option (List ℕ)
+sent_of model = option_and_then (λ waits. waits) (outgoing_of model)
+
+-- the device without what the host takes
+abbrev pub without_sent : ModelState → ModelState
+without_sent (Network card) = Network (without_oldest card)
+without_sent (Console terminal) = Console (without_output terminal)
+without_sent model = model
+
 -- whether a chain is on offer that waits for what the host supplies or sends
 abbrev pub is_starving : ModelState → Memory → WindowState → Bool
 is_starving (Entropy pool) m w = is_starved m (queue_at 0 w) pool
 is_starving (Network card) m w = is_card_starving card m w
 is_starving (Block disk) m w = false
+is_starving (Console terminal) m w = is_terminal_starving terminal m w
 
 -- ---- a disk that the host serves
 

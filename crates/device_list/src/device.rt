@@ -100,8 +100,10 @@ impl<A: Allocator> VirtioDevice<A> {
         if self.model.must_wait(offset) {
             return false;
         }
-        if let Action::Notify(q) = self.window.write(offset, width, value, mem) {
-            self.model.serve(q, mem, &mut self.window, room);
+        match self.window.write(offset, width, value, mem) {
+            Action::Notify(q) => self.model.serve(q, mem, &mut self.window, room),
+            Action::ConfigWrite { offset, value, .. } => self.model.configure(offset, value),
+            Action::Reset | Action::None => (),
         }
         true
     }

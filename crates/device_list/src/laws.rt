@@ -1,15 +1,16 @@
 //! Laws of the definitions. The bodies are empty: each contract is a theorem.
 
-ghost use Rattle.std.specs.Prelude.{◌≡◌, ◌≢◌, ℕ, Bool, true, false, List, [], Some, None, replicate};
+ghost use Rattle.std.specs.Prelude.{◌≡◌, ◌≢◌, ◌++◌, ◌∷◌, ℕ, Bool, true, false, List, [], Some, None, length, replicate};
 ghost use Rattle.std.specs.List.{slice_get};
 ghost use Rattle.guest_memory.specs.Memory.{Memory};
 ghost use Rattle.block_device.specs.declared.operation.HostEvent.{HostEvent};
 ghost use Rattle.device_list.specs.declared.spec.AddRefusal.TheVariants.{BadDisk, BadMtu, TooMany};
-ghost use Rattle.device_list.specs.declared.spec.DeviceSpec.TheVariants.{Block, Entropy, Network};
-ghost use Rattle.device_list.specs.Device.{DeviceState, Receives, Supplies, TakesSent, Told, Writes, fresh_device, linked};
+ghost use Rattle.device_list.specs.declared.spec.DeviceSpec.TheVariants.{Block, Console, Entropy, Network};
+ghost use Rattle.device_list.specs.Device.{DeviceState, Receives, Supplies, TakesSent, Told, Writes, fresh_device, linked, resized};
 ghost use Rattle.device_list.specs.List.{At, changed_at, refusal_of};
 ghost use Rattle.device_list.specs.Saved.{AreOfModels, RestoresEach, devices_restored, saved_devices};
 ghost use Rattle.device_list.specs.Model.{features_of, fresh_model};
+ghost use Rattle.device_list.specs.Terminal.{Terminal, fresh_terminal, terminal_configured, with_emergency};
 
 /// What is written to a device's window decides what becomes of memory and devices.
 pub fn one_write()
@@ -32,7 +33,7 @@ pub fn one_reception()
         (one ≡ other) × (new ≡ new') }
 {}
 
-/// And the taking of a frame that it sent.
+/// And the taking of what it sent.
 pub fn one_taking()
     ensures { (n : ℕ) (m one other : Memory) (old new new' : List DeviceState) →
         At TakesSent n m one old new → At TakesSent n m other old new' →
@@ -60,6 +61,8 @@ pub fn one_device_changes()
         At (Told said) n m m' old new → other ≢ n → slice_get new other ≡ slice_get old other }
     ensures link { (n other : ℕ) (up : Bool) (devices : List DeviceState) → other ≢ n
         → slice_get (changed_at (linked up) n devices) other ≡ slice_get devices other }
+    ensures size { (n other cols rows : ℕ) (devices : List DeviceState) → other ≢ n
+        → slice_get (changed_at (resized cols rows) n devices) other ≡ slice_get devices other }
 {}
 
 /// Six devices are the most, whatever the next one is to be. Else a network card needs an MTU of 68 or more, and a disk fewer
@@ -74,15 +77,28 @@ pub fn refusals_in_numbers()
     ensures deep { refusal_of [] (Block 0 true (replicate 20 0) 65) ≡ Some BadDisk }
 {}
 
-/// Bits 3, 5 and 16 are a network card's own, and 2, 6, 9 and 14 a disk's, with 5 where it refuses writes. Bits 28, 29, 32, 34 and
-/// 38 are those of every device.
+/// Bits 3, 5 and 16 are a network card's own, 2, 6, 9 and 14 a disk's, with 5 where it refuses writes, and 0 and 2 a console's. Bits
+/// 28, 29, 32, 34 and 38 are those of every device.
 pub fn features_in_bits()
     ensures network { (mac : List ℕ) (mtu : ℕ) → features_of (fresh_model (Network mac mtu)) ≡ 297158115368 }
     ensures disk { (sectors depth : ℕ) (identity : List ℕ) →
         features_of (fresh_model (Block sectors false identity depth)) ≡ 297158066756 }
     ensures read_only_disk { (sectors depth : ℕ) (identity : List ℕ) →
         features_of (fresh_model (Block sectors true identity depth)) ≡ 297158066788 }
+    ensures console { (cols rows : ℕ) → features_of (fresh_model (Console cols rows)) ≡ 297158049797 }
     ensures entropy { features_of (fresh_model Entropy) ≡ 297158049792 }
+{}
+
+/// What is written at 0x108 of a console's window puts its low byte out, and what is written beside it puts nothing out. The byte
+/// that makes 65536 bytes of output goes out, and the next one is lost.
+pub fn emergency_writes_in_numbers()
+    ensures low_byte { terminal_configured 264 577 (fresh_terminal 80 25) ≡
+        record (fresh_terminal 80 25) { waiting = 65 ∷ [] } }
+    ensures beside { (value : ℕ) → terminal_configured 265 value (fresh_terminal 80 25) ≡ fresh_terminal 80 25 }
+    ensures last { (byte : ℕ) (terminal : Terminal) → length terminal.waiting ≡ 65535 →
+        with_emergency byte terminal ≡ record terminal { waiting = terminal.waiting ++ byte ∷ [] } }
+    ensures full { (byte : ℕ) (terminal : Terminal) → length terminal.waiting ≡ 65536 →
+        with_emergency byte terminal ≡ terminal }
 {}
 
 /// Devices of the same models that take up what is saved of devices are then as those.

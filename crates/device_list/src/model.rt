@@ -1,16 +1,18 @@
 //! What stands behind a device's window.
 
 ghost use Rattle.std.specs.Prelude.{◌≡◌, false, IfOk};
-ghost use Rattle.guest_memory.specs.Memory.{SameRange};
+ghost use Rattle.guest_memory.specs.Memory.{Memory, SameRange};
 ghost use Rattle.mmio_window.specs.Soundness.{IsSound};
+ghost use Rattle.mmio_window.specs.Window.{WindowState};
 ghost use Rattle.negotiation.specs.Features.{feature_bits};
-ghost use Rattle.device_list.specs.Model.{IsHeld, Serves, config_of, features_of, fresh_model, has_bad_disk, has_bad_mtu, kind_of, must_wait, state_of};
+ghost use Rattle.device_list.specs.Model.{IsHeld, Serves, config_of, configured, features_of, fresh_model, has_bad_disk, has_bad_mtu, kind_of, must_wait, state_of};
 
 mod host;
 mod saved;
 
 use crate::card::NetworkCard;
 use crate::spec::DeviceSpec;
+use crate::terminal::Terminal;
 use chain::{Budget, Chain};
 use entropy_device::{EntropyDevice, REQUESTQ};
 use guest_memory::GuestMemory;
@@ -29,6 +31,8 @@ pub enum DeviceModel<A: Allocator = Global> {
     Network(NetworkCard<A>),
     /// A disk that the host serves, with what is in flight of it (5.2).
     Block(HostedDisk<A>),
+    /// A console, with pending input and the output that waits (5.3).
+    Console(Terminal<A>),
 }
 
 impl<A: Allocator + Copy> DeviceModel<A> {
@@ -53,6 +57,10 @@ impl<A: Allocator + Copy> DeviceModel<A> {
                 Ok(disk) => Ok(DeviceModel::Block(disk)),
                 Err(_) => Err(NoMemory),
             },
+            DeviceSpec::Console { cols, rows } => {
+                let terminal = Terminal::new(alloc, cols, rows)?;
+                Ok(DeviceModel::Console(terminal))
+            }
         }
     }
 }
@@ -66,6 +74,7 @@ impl<A: Allocator> DeviceModel<A> {
             DeviceModel::Entropy(_) => DeviceKind::Entropy,
             DeviceModel::Network(_) => DeviceKind::Network,
             DeviceModel::Block(_) => DeviceKind::Block,
+            DeviceModel::Console(_) => DeviceKind::Console,
         }
     }
 
@@ -77,6 +86,7 @@ impl<A: Allocator> DeviceModel<A> {
             DeviceModel::Entropy(_) => Features::of_every_device(),
             DeviceModel::Network(_) => offered_features().union(Features::of_every_device()),
             DeviceModel::Block(disk) => disk.features(),
+            DeviceModel::Console(terminal) => terminal.features(),
         }
     }
 
@@ -88,6 +98,7 @@ impl<A: Allocator> DeviceModel<A> {
             DeviceModel::Entropy(_) => [0; CONFIGURATION_LEN],
             DeviceModel::Network(card) => card.config(),
             DeviceModel::Block(disk) => disk.config(),
+            DeviceModel::Console(terminal) => terminal.config(),
         }
     }
 
@@ -96,8 +107,21 @@ impl<A: Allocator> DeviceModel<A> {
         ensures { result ≡ must_wait offset (state_of self.now) }
     {
         match self {
-            DeviceModel::Entropy(_) | DeviceModel::Network(_) => false,
+            DeviceModel::Entropy(_) | DeviceModel::Network(_) | DeviceModel::Console(_) => false,
             DeviceModel::Block(disk) => disk.must_wait(offset),
+        }
+    }
+
+    /// Takes what its driver wrote to its configuration, at this offset of its window.
+    pub(crate) fn configure(&mut self, offset: u16, value: u32)
+        ensures configured { state_of self.new ≡ configured offset value (state_of self.old) }
+        ensures same_kind { kind_of (state_of self.new) ≡ kind_of (state_of self.old) }
+        ensures same_features { features_of (state_of self.new) ≡ features_of (state_of self.old) }
+        ensures held { (m : Memory) (w : WindowState) → IsHeld m w (state_of self.old) → IsHeld m w (state_of self.new) }
+    {
+        match self {
+            DeviceModel::Entropy(_) | DeviceModel::Network(_) | DeviceModel::Block(_) => (),
+            DeviceModel::Console(terminal) => terminal.configure(offset, value),
         }
     }
 
@@ -127,6 +151,7 @@ impl<A: Allocator> DeviceModel<A> {
             (DeviceModel::Entropy(_), _) => (),
             (DeviceModel::Network(card), _) => card.serve(q, mem, window, room),
             (DeviceModel::Block(disk), _) => disk.serve(q, mem, window, room),
+            (DeviceModel::Console(terminal), _) => terminal.serve(q, mem, window, room),
         }
     }
 }

@@ -38,6 +38,13 @@ pub enum DeviceSpec {
         /// How many operations may be in flight at most: 1 to 64.
         depth: u8,
     },
+    /// A console (5.3) of this size in characters.
+    Console {
+        /// Its columns.
+        cols: u16,
+        /// Its rows.
+        rows: u16,
+    },
 }
 
 impl DeviceSpec {
@@ -46,7 +53,7 @@ impl DeviceSpec {
         ensures { result ≡ has_bad_mtu self.now }
     {
         match self {
-            DeviceSpec::Entropy | DeviceSpec::Block { .. } => false,
+            DeviceSpec::Entropy | DeviceSpec::Block { .. } | DeviceSpec::Console { .. } => false,
             DeviceSpec::Network { mtu, .. } => *mtu < LEAST_MTU,
         }
     }
@@ -56,7 +63,7 @@ impl DeviceSpec {
         ensures { result ≡ has_bad_disk self.now }
     {
         match self {
-            DeviceSpec::Entropy | DeviceSpec::Network { .. } => false,
+            DeviceSpec::Entropy | DeviceSpec::Network { .. } | DeviceSpec::Console { .. } => false,
             DeviceSpec::Block { sectors, depth, .. } => {
                 *sectors >= TOO_MANY_SECTORS || *depth == 0 || usize::from(*depth) > MOST_IN_FLIGHT
             }

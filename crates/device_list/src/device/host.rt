@@ -2,11 +2,12 @@
 
 ghost use Rattle.std.specs.Prelude.{◌≡◌, ◌≢◌, ◌++◌, true, Some, None, IfErr, OnOk, OnErr, IsSome, is_some};
 ghost use Rattle.std.specs.Bool.{OnTrue, OnFalse};
-ghost use Rattle.std.specs.Option.{option_and_then, option_map};
+ghost use Rattle.std.specs.Option.{option_map};
 ghost use Rattle.guest_memory.specs.Memory.{Memory, SameRange};
-ghost use Rattle.device_list.specs.Card.{oldest_of, receive_refusal};
-ghost use Rattle.device_list.specs.Device.{IsSoundDevice, Receives, Supplies, TakesSent, Told, linked, supply_taken};
-ghost use Rattle.device_list.specs.Model.{card_of, disk_of, is_at_work, is_starving};
+ghost use Rattle.mmio_window.specs.Window.{with_config_changed};
+ghost use Rattle.device_list.specs.Card.{receive_refusal};
+ghost use Rattle.device_list.specs.Device.{IsSoundDevice, Receives, Supplies, TakesSent, Told, linked, resized, supply_taken};
+ghost use Rattle.device_list.specs.Model.{card_of, disk_of, is_at_work, is_starving, outgoing_of, sent_of, terminal_of};
 ghost use Rattle.hosted_disk.specs.Told.{has_effect};
 
 use crate::device::VirtioDevice;
@@ -20,11 +21,14 @@ use network_device::{RECEIVEQ, TRANSMITQ};
 use std::alloc::Allocator;
 
 impl<A: Allocator> VirtioDevice<A> {
-    /// Whether it is a network card.
-    pub(crate) fn is_card(&self) -> bool
-        ensures { result ≡ is_some (card_of self.now.model) }
+    /// Whether its driver sends anything that the host takes: frames of a card, or output of a console.
+    pub(crate) fn is_sender(&self) -> bool
+        ensures { result ≡ is_some (outgoing_of self.now.model) }
     {
-        matches!(self.model, DeviceModel::Network(_))
+        matches!(
+            self.model,
+            DeviceModel::Network(_) | DeviceModel::Console(_)
+        )
     }
 
     /// Takes what the host supplies, serves the queue that waits for it, and answers how many bytes it took: there is no
@@ -69,21 +73,21 @@ impl<A: Allocator> VirtioDevice<A> {
         Ok(())
     }
 
-    /// The oldest frame that waits for the host, in two parts.
+    /// What the driver sent and the host takes now, in two parts: a card's oldest frame, or all output of a console.
     pub(crate) fn sent(&self) -> Option<(&[u8], &[u8])>
-        ensures { option_map (λ parts. parts.0.now ++ parts.1.now) result ≡ option_and_then oldest_of (card_of self.now.model) }
+        ensures { option_map (λ parts. parts.0.now ++ parts.1.now) result ≡ sent_of self.now.model }
     {
         self.model.sent()
     }
 
-    /// Takes that frame away, and serves the transmit queue. False where none waits: nothing has changed then.
+    /// Takes that away, and serves the transmit queue. False where nothing waits: nothing has changed then.
     pub(crate) fn take_sent<M: Allocator>(
         &mut self,
         mem: &mut GuestMemory<M>,
         room: &mut Chain,
     ) -> bool
         requires sound { IsSoundDevice mem.old self.old }
-        ensures found { result ≡ is_some (option_and_then oldest_of (card_of self.old.model)) }
+        ensures found { result ≡ is_some (sent_of self.old.model) }
         ensures takes { OnTrue result (TakesSent mem.old mem.new self.old self.new) }
         ensures kept { OnFalse result (self.new ≡ self.old) }
         ensures unwritten { OnFalse result (mem.new ≡ mem.old) }
@@ -107,8 +111,30 @@ impl<A: Allocator> VirtioDevice<A> {
         if !self.model.set_link(up) {
             return false;
         }
-        self.window.config_changed();
+        self.config_changed();
         true
+    }
+
+    /// Changes the size, and tells the driver (5.3.4). False where it is no console: nothing has changed then.
+    pub(crate) fn resize(&mut self, cols: u16, rows: u16) -> bool
+        ensures found { result ≡ is_some (terminal_of self.old.model) }
+        ensures resized { OnTrue result (self.new ≡ resized cols rows self.old) }
+        ensures kept { OnFalse result (self.new ≡ self.old) }
+        ensures sound { (m : Memory) → IsSoundDevice m self.old → IsSoundDevice m self.new }
+    {
+        if !self.model.resize(cols, rows) {
+            return false;
+        }
+        self.config_changed();
+        true
+    }
+
+    // Its configuration changed: the driver is told (2.5.1).
+    fn config_changed(&mut self)
+        ensures changed { self.new ≡ record self.old { window = with_config_changed self.old.window } }
+        ensures sound { (m : Memory) → IsSoundDevice m self.old → IsSoundDevice m self.new }
+    {
+        self.window.config_changed();
     }
 
     /// Whether a chain is on offer that waits for what the host supplies or sends.

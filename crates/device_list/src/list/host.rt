@@ -5,9 +5,9 @@ ghost use Rattle.std.specs.Bool.{OnTrue, OnFalse};
 ghost use Rattle.std.specs.List.{slice_get};
 ghost use Rattle.std.specs.Option.{option_and_then, option_map};
 ghost use Rattle.guest_memory.specs.Memory.{Memory, SameRange};
-ghost use Rattle.device_list.specs.Card.{oldest_of, receive_refusal};
-ghost use Rattle.device_list.specs.Device.{Receives, Supplies, TakesSent, Told, linked, supply_taken};
-ghost use Rattle.device_list.specs.List.{AreSoundDevices, At, are_at_work, card_at, changed_at, disk_at, is_starved_at};
+ghost use Rattle.device_list.specs.Card.{receive_refusal};
+ghost use Rattle.device_list.specs.Device.{Receives, Supplies, TakesSent, Told, linked, resized, supply_taken};
+ghost use Rattle.device_list.specs.List.{AreSoundDevices, At, are_at_work, card_at, changed_at, disk_at, is_starved_at, outgoing_at, sent_by, terminal_at};
 ghost use Rattle.hosted_disk.specs.Told.{has_effect};
 
 use crate::list::DeviceList;
@@ -19,7 +19,7 @@ use hosted_disk::HostedDisk;
 use std::alloc::Allocator;
 
 impl<A: Allocator> DeviceList<A> {
-    /// Hands a device what its host supplies: random bytes. Its queue is served then. Answers how many bytes it took. There is
+    /// Hands a device what its host supplies: random bytes, or what is typed to a console. Its queue 0 is served then. Answers how many bytes it took. There is
     /// no answer of a device that isn't there, or that takes none: nothing has changed then.
     pub fn supply<M: Allocator>(
         &mut self,
@@ -64,27 +64,28 @@ impl<A: Allocator> DeviceList<A> {
         found.receive(frame, mem, room)
     }
 
-    /// Whether the device of this number is there and is a network card.
-    pub fn has_card(&self, device: u8) -> bool
-        ensures { result ≡ is_some (card_at device self.now) }
+    /// Whether the device of this number is there and its driver sends anything that the host takes: a network card, or a
+    /// console.
+    pub fn has_sender(&self, device: u8) -> bool
+        ensures { result ≡ is_some (outgoing_at device self.now) }
     {
         match self.get(device) {
-            Some(found) => found.is_card(),
+            Some(found) => found.is_sender(),
             None => false,
         }
     }
 
-    /// The oldest frame of a network card's driver that waits for the host, in two parts. There is none where no frame waits,
-    /// and of a device that isn't there or is no network card.
+    /// What the driver of a network card or of a console sent and its host takes now, in two parts: the oldest frame, or all
+    /// output. There is none where nothing waits, and of another device or one that isn't there.
     pub fn sent(&self, device: u8) -> Option<(&[u8], &[u8])>
-        ensures { option_map (λ parts. parts.0.now ++ parts.1.now) result ≡ option_and_then oldest_of (card_at device self.now) }
+        ensures { option_map (λ parts. parts.0.now ++ parts.1.now) result ≡ sent_by device self.now }
     {
         let found = self.get(device)?;
         found.sent()
     }
 
-    /// Takes that frame away. The transmit queue is served then, since there is room again. False where there is none: nothing
-    /// has changed then.
+    /// Takes that away. The transmit queue is served then, since there is room again. False where nothing waits: nothing has
+    /// changed then.
     pub fn take_sent<M: Allocator>(
         &mut self,
         device: u8,
@@ -92,7 +93,7 @@ impl<A: Allocator> DeviceList<A> {
         room: &mut Chain,
     ) -> bool
         requires sound { AreSoundDevices mem.old self.old }
-        ensures found { result ≡ is_some (option_and_then oldest_of (card_at device self.old)) }
+        ensures found { result ≡ is_some (sent_by device self.old) }
         ensures takes { OnTrue result (At TakesSent device mem.old mem.new self.old self.new) }
         ensures kept { OnFalse result (self.new ≡ self.old) }
         ensures unwritten { OnFalse result (mem.new ≡ mem.old) }
@@ -117,6 +118,20 @@ impl<A: Allocator> DeviceList<A> {
             return false;
         };
         found.set_link(up)
+    }
+
+    /// Changes the size of a console, and tells its driver (5.3.4). False where the device isn't there or is no console:
+    /// nothing has changed then.
+    pub fn resize(&mut self, device: u8, cols: u16, rows: u16) -> bool
+        ensures found { result ≡ is_some (terminal_at device self.old) }
+        ensures resized { OnTrue result (self.new ≡ changed_at (resized cols rows) device self.old) }
+        ensures kept { OnFalse result (self.new ≡ self.old) }
+        ensures sound { (m : Memory) → AreSoundDevices m self.old → AreSoundDevices m self.new }
+    {
+        let Some(found) = self.devices.get_mut(usize::from(device)) else {
+            return false;
+        };
+        found.resize(cols, rows)
     }
 
     /// Whether a chain is on offer in a device's queue that waits for what the host supplies or sends. There is no answer of a device

@@ -2,14 +2,15 @@
 
 ghost use Rattle.std.specs.Prelude.{◌≡◌, ◌≢◌, ◌++◌, true, Some, None, IfErr, OnOk, OnErr, is_some};
 ghost use Rattle.std.specs.Bool.{OnTrue, OnFalse};
-ghost use Rattle.std.specs.Option.{option_and_then, option_map};
+ghost use Rattle.std.specs.Option.{option_map};
 ghost use Rattle.guest_memory.specs.Memory.{Memory, SameRange};
 ghost use Rattle.mmio_window.specs.Soundness.{IsSound};
 ghost use Rattle.mmio_window.specs.Window.{WindowState};
 ghost use Rattle.hosted_disk.specs.Told.{DoesAsTold, has_effect};
-ghost use Rattle.device_list.specs.Card.{oldest_of, receive_refusal, with_frame, with_link, without_oldest};
+ghost use Rattle.device_list.specs.Card.{receive_refusal, with_frame, with_link};
 ghost use Rattle.device_list.specs.Device.{Told};
-ghost use Rattle.device_list.specs.Model.{IsHeld, card_of, disk_of, features_of, is_at_work, is_starving, kind_of, state_of, supplied_model, taken_of, with_card};
+ghost use Rattle.device_list.specs.Model.{IsHeld, card_of, disk_of, features_of, is_at_work, is_starving, kind_of, sent_of, state_of, supplied_model, taken_of, terminal_of, with_card, with_terminal, without_sent};
+ghost use Rattle.device_list.specs.Terminal.{with_size};
 
 use crate::model::DeviceModel;
 use crate::refusal::ReceiveRefusal;
@@ -33,6 +34,7 @@ impl<A: Allocator> DeviceModel<A> {
         match self {
             DeviceModel::Entropy(entropy) => Some(entropy.supply(bytes)),
             DeviceModel::Network(_) | DeviceModel::Block(_) => None,
+            DeviceModel::Console(terminal) => Some(terminal.supply(bytes)),
         }
     }
 
@@ -47,26 +49,28 @@ impl<A: Allocator> DeviceModel<A> {
         ensures held { (m : Memory) (w : WindowState) → IsHeld m w (state_of self.old) → IsHeld m w (state_of self.new) }
     {
         match self {
-            DeviceModel::Entropy(_) | DeviceModel::Block(_) => Err(ReceiveRefusal::NoDevice),
+            DeviceModel::Entropy(_) | DeviceModel::Block(_) | DeviceModel::Console(_) => {
+                Err(ReceiveRefusal::NoDevice)
+            }
             DeviceModel::Network(card) => card.receive(frame).map_err(ReceiveRefusal::Frame),
         }
     }
 
-    /// The oldest frame that waits for the host, in two parts, if it is a network card.
+    /// What the driver sent and the host takes now, in two parts: a card's oldest frame, or all output of a console.
     pub(crate) fn sent(&self) -> Option<(&[u8], &[u8])>
-        ensures { option_map (λ parts. parts.0.now ++ parts.1.now) result
-            ≡ option_and_then oldest_of (card_of (state_of self.now)) }
+        ensures { option_map (λ parts. parts.0.now ++ parts.1.now) result ≡ sent_of (state_of self.now) }
     {
         match self {
             DeviceModel::Entropy(_) | DeviceModel::Block(_) => None,
             DeviceModel::Network(card) => card.sent(),
+            DeviceModel::Console(terminal) => terminal.sent(),
         }
     }
 
-    /// Takes that frame away. False where none waits.
+    /// Takes that away. False where nothing waits.
     pub(crate) fn take_sent(&mut self) -> bool
-        ensures found { result ≡ is_some (option_and_then oldest_of (card_of (state_of self.old))) }
-        ensures taken { OnTrue result (state_of self.new ≡ with_card without_oldest (state_of self.old)) }
+        ensures found { result ≡ is_some (sent_of (state_of self.old)) }
+        ensures taken { OnTrue result (state_of self.new ≡ without_sent (state_of self.old)) }
         ensures kept { OnFalse result (state_of self.new ≡ state_of self.old) }
         ensures same_kind { kind_of (state_of self.new) ≡ kind_of (state_of self.old) }
         ensures same_features { features_of (state_of self.new) ≡ features_of (state_of self.old) }
@@ -75,6 +79,7 @@ impl<A: Allocator> DeviceModel<A> {
         match self {
             DeviceModel::Entropy(_) | DeviceModel::Block(_) => false,
             DeviceModel::Network(card) => card.take_sent(),
+            DeviceModel::Console(terminal) => terminal.take_sent(),
         }
     }
 
@@ -88,9 +93,27 @@ impl<A: Allocator> DeviceModel<A> {
         ensures held { (m : Memory) (w : WindowState) → IsHeld m w (state_of self.old) → IsHeld m w (state_of self.new) }
     {
         match self {
-            DeviceModel::Entropy(_) | DeviceModel::Block(_) => false,
+            DeviceModel::Entropy(_) | DeviceModel::Block(_) | DeviceModel::Console(_) => false,
             DeviceModel::Network(card) => {
                 card.set_link(up);
+                true
+            }
+        }
+    }
+
+    /// Changes the size, if it is a console. False where it is none. Its window is told by the caller.
+    pub(crate) fn resize(&mut self, cols: u16, rows: u16) -> bool
+        ensures found { result ≡ is_some (terminal_of (state_of self.old)) }
+        ensures resized { state_of self.new ≡ with_terminal (with_size cols rows) (state_of self.old) }
+        ensures kept { OnFalse result (state_of self.new ≡ state_of self.old) }
+        ensures same_kind { kind_of (state_of self.new) ≡ kind_of (state_of self.old) }
+        ensures same_features { features_of (state_of self.new) ≡ features_of (state_of self.old) }
+        ensures held { (m : Memory) (w : WindowState) → IsHeld m w (state_of self.old) → IsHeld m w (state_of self.new) }
+    {
+        match self {
+            DeviceModel::Entropy(_) | DeviceModel::Network(_) | DeviceModel::Block(_) => false,
+            DeviceModel::Console(terminal) => {
+                terminal.resize(cols, rows);
                 true
             }
         }
@@ -110,6 +133,7 @@ impl<A: Allocator> DeviceModel<A> {
             DeviceModel::Entropy(entropy) => entropy.starved(mem, window, room),
             DeviceModel::Network(card) => card.starved(mem, window, room),
             DeviceModel::Block(_) => false,
+            DeviceModel::Console(terminal) => terminal.starved(mem, window, room),
         }
     }
 
@@ -118,7 +142,7 @@ impl<A: Allocator> DeviceModel<A> {
         ensures { option_map (λ disk. disk.now) result ≡ disk_of (state_of self.now) }
     {
         match self {
-            DeviceModel::Entropy(_) | DeviceModel::Network(_) => None,
+            DeviceModel::Entropy(_) | DeviceModel::Network(_) | DeviceModel::Console(_) => None,
             DeviceModel::Block(disk) => Some(disk),
         }
     }
@@ -128,7 +152,7 @@ impl<A: Allocator> DeviceModel<A> {
         ensures { result ≡ is_at_work (state_of self.now) }
     {
         match self {
-            DeviceModel::Entropy(_) | DeviceModel::Network(_) => false,
+            DeviceModel::Entropy(_) | DeviceModel::Network(_) | DeviceModel::Console(_) => false,
             DeviceModel::Block(disk) => disk.is_busy(),
         }
     }
@@ -160,7 +184,7 @@ impl<A: Allocator> DeviceModel<A> {
         ensures held { IsHeld mem.new window.new (state_of self.new) }
     {
         match self {
-            DeviceModel::Entropy(_) | DeviceModel::Network(_) => None,
+            DeviceModel::Entropy(_) | DeviceModel::Network(_) | DeviceModel::Console(_) => None,
             DeviceModel::Block(disk) => Some(disk.tell(said, mem, window, room)),
         }
     }

@@ -16,6 +16,7 @@ impl<A: Allocator> DeviceModel<A> {
         match self {
             DeviceModel::Network(_) => 1,
             DeviceModel::Block(_) => 2,
+            DeviceModel::Console(_) => 3,
             DeviceModel::Entropy(_) => 4,
         }
     }
@@ -25,7 +26,7 @@ impl<A: Allocator> DeviceModel<A> {
         ensures { result ≡ mac_of (state_of self.now) }
     {
         match self {
-            DeviceModel::Entropy(_) | DeviceModel::Block(_) => [0; 6],
+            DeviceModel::Entropy(_) | DeviceModel::Block(_) | DeviceModel::Console(_) => [0; 6],
             DeviceModel::Network(card) => card.configuration().mac,
         }
     }
@@ -35,7 +36,7 @@ impl<A: Allocator> DeviceModel<A> {
         ensures { result ≡ mtu_of (state_of self.now) }
     {
         match self {
-            DeviceModel::Entropy(_) | DeviceModel::Block(_) => 0,
+            DeviceModel::Entropy(_) | DeviceModel::Block(_) | DeviceModel::Console(_) => 0,
             DeviceModel::Network(card) => card.configuration().mtu,
         }
     }
@@ -45,7 +46,7 @@ impl<A: Allocator> DeviceModel<A> {
         ensures { result ≡ sectors_of (state_of self.now) }
     {
         match self {
-            DeviceModel::Entropy(_) | DeviceModel::Network(_) => 0,
+            DeviceModel::Entropy(_) | DeviceModel::Network(_) | DeviceModel::Console(_) => 0,
             DeviceModel::Block(disk) => disk.device().extent.count,
         }
     }
@@ -55,7 +56,7 @@ impl<A: Allocator> DeviceModel<A> {
         ensures { result ≡ identity_of (state_of self.now) }
     {
         match self {
-            DeviceModel::Entropy(_) | DeviceModel::Network(_) => [0; 20],
+            DeviceModel::Entropy(_) | DeviceModel::Network(_) | DeviceModel::Console(_) => [0; 20],
             DeviceModel::Block(disk) => disk.device().identity,
         }
     }

@@ -2,7 +2,7 @@ use Rattle.std.proofs.Common.{◌∙◌, List, rules, sym, subst}
 use Rattle.std.specs.Prelude.{is_ok}
 use Rattle.device_list.specs.Device.{DeviceState}
 use Rattle.device_list.specs.List.{AreSoundDevices}
-use Rattle.device_list.proofs.Saved.{not_refused}
+use Rattle.device_list.proofs.Saved.{bad_disk, bad_mtu, not_refused, too_many}
 use Rattle.device_list.proofs.Sound.{added_sound}
 use Rattle.device_list.proofs.list.DeviceList.add.Goals.{in-Ok-push, in-Err}
 use Rattle.device_list.proofs.list.DeviceList.add.Goals as goal
@@ -46,3 +46,20 @@ returns-in_default-clause-refused g c =
     not_refused c.args.self.now c.args.spec c.len-number.result (search rules)
     (let few = c.if-number-ge-MOST_DEVICES.false in few) (sym c.has_bad_mtu.ensures ∙ c.if-has_bad_mtu.false)
     (sym c.has_bad_disk.ensures ∙ c.if-has_bad_disk.false)
+
+pub returns-then-number-ge-MOST_DEVICES-clause-refused :
+    goal.returns-then-number-ge-MOST_DEVICES-clause-refused
+returns-then-number-ge-MOST_DEVICES-clause-refused g c =
+    too_many c.args.self.now c.args.spec c.len-number.result (search rules)
+    (let many = c.if-number-ge-MOST_DEVICES.true in many)
+
+pub returns-then-has_bad_mtu-clause-refused : goal.returns-then-has_bad_mtu-clause-refused
+returns-then-has_bad_mtu-clause-refused g c =
+    bad_mtu c.args.self.now c.args.spec c.len-number.result (search rules)
+    (let few = c.if-number-ge-MOST_DEVICES.false in few) (sym c.has_bad_mtu.ensures ∙ c.if-has_bad_mtu.true)
+
+pub returns-then-has_bad_disk-clause-refused : goal.returns-then-has_bad_disk-clause-refused
+returns-then-has_bad_disk-clause-refused g c =
+    bad_disk c.args.self.now c.args.spec c.len-number.result (search rules)
+    (let few = c.if-number-ge-MOST_DEVICES.false in few) (sym c.has_bad_mtu.ensures ∙ c.if-has_bad_mtu.false)
+    (sym c.has_bad_disk.ensures ∙ c.if-has_bad_disk.true)

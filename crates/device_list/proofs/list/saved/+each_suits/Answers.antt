@@ -1,5 +1,5 @@
 use Rattle.std.proofs.Common.{refl, rules}
-use Rattle.device_list.proofs.Saved.{fewer, first_fails, more, none_suit, suits_more}
+use Rattle.device_list.proofs.Saved.{fewer, first_fails, more, none_suit, others_fewer, suits_more}
 use Rattle.device_list.proofs.list.saved.+each_suits.Goals as goal
 
 pub returns-then-suits : goal.returns-then-suits
@@ -32,3 +32,7 @@ returns-in-empty-empty g t c = (
   λ yes. none_suit c.args.saved.now c.args.devices.now (search rules) (search rules),
   λ suit. refl,
 )
+
+pub each_suits-requires : goal.each_suits-requires
+each_suits-requires g t c = λ κs lives.
+    (others_fewer c.args.devices.now t (search rules) (search rules), lives)

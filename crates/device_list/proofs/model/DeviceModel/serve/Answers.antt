@@ -3,7 +3,7 @@ use Rattle.mmio_window.specs.declared.stage.Stage.TheVariants.{First}
 use Rattle.mmio_window.proofs.Devices.{KeepsDevice-served}
 use Rattle.entropy_device.specs.Device.{entropy}
 use Rattle.device_list.proofs.model.DeviceModel.serve.Goals as goal
-use Rattle.device_list.proofs.model.DeviceModel.serve.Goals.{in-Block-default, in-Entropy-eq0, in-Entropy-default, in-Network-default}
+use Rattle.device_list.proofs.model.DeviceModel.serve.Goals.{in-Block-default, in-Console-default, in-Entropy-eq0, in-Entropy-default, in-Network-default}
 
 pub returns-clause-kind : goal.returns-clause-kind
 returns-clause-kind g c =
@@ -14,6 +14,7 @@ returns-clause-kind g c =
       | in-Entropy-default w ↦ rw (w.window-is) refl
       | in-Network-default w ↦ rw (w.window-is) (w.serve.ensures.kind)
       | in-Block-default w ↦ rw (w.window-is) (w.serve-in-Block-default.ensures.kind)
+      | in-Console-default w ↦ rw (w.window-is) (w.serve-in-Console-default.ensures.kind)
     ]
 
 pub returns-clause-offered : goal.returns-clause-offered
@@ -25,4 +26,5 @@ returns-clause-offered g c =
       | in-Entropy-default w ↦ rw (w.window-is) refl
       | in-Network-default w ↦ rw (w.window-is) (w.serve.ensures.offered)
       | in-Block-default w ↦ rw (w.window-is) (w.serve-in-Block-default.ensures.offered)
+      | in-Console-default w ↦ rw (w.window-is) (w.serve-in-Console-default.ensures.offered)
     ]
