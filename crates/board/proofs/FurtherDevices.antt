@@ -13,21 +13,22 @@ use Rattle.block_device.specs.declared.operation.HostEvent.TheVariants.{Drop}
 use Rattle.block_device.specs.Flights.{HostedQueue, InFlight, freed, is_any}
 use Rattle.hosted_disk.specs.Disk.{HostedDisk}
 use Rattle.hosted_disk.specs.Told.{has_effect}
-use Rattle.device_list.specs.Model.{ModelState, Block, Entropy, Network, disk_of, must_wait}
+use Rattle.device_list.specs.Model.{ModelState, Block, Console, Entropy, Network, disk_of, must_wait}
 use Rattle.device_list.specs.Device.{DeviceState, Receives, TakesSent, Told, Writes, fresh_device, register_of, supply_taken}
 use Rattle.device_list.specs.declared.spec.AddRefusal.{AddRefusal}
-use Rattle.device_list.specs.List.{At, card_at, disk_at, refusal_of, waits_at}
-use Rattle.device_list.specs.Card.{Card, oldest_of, receive_refusal}
+use Rattle.device_list.specs.List.{At, card_at, disk_at, outgoing_at, refusal_of, sent_by, terminal_at, waits_at}
+use Rattle.device_list.specs.Card.{Card, receive_refusal}
+use Rattle.device_list.specs.Terminal.{Terminal}
 use Rattle.network_device.specs.declared.refusal.FrameRefusal.TheVariants.{Full}
 use Rattle.device_list.specs.declared.refusal.ReceiveRefusal.{ReceiveRefusal}
 use Rattle.device_list.specs.declared.refusal.ReceiveRefusal.TheVariants.{Frame}
 use Rattle.device_list.proofs.One.{reception_once, supply_once, taking_once, word_once, write_once}
 use Rattle.board.specs.declared.event.DeviceEvent.{DeviceEvent}
-use Rattle.board.specs.declared.event.DeviceEvent.TheVariants.{Plug, Read, Write, Supply, Receive, TakeSent, SetLink, Host}
+use Rattle.board.specs.declared.event.DeviceEvent.TheVariants.{Plug, Read, Write, Supply, Receive, TakeSent, SetLink, Resize, Host}
 use Rattle.board.specs.declared.event.EventKind.TheVariants.{Device}
 use Rattle.board.specs.declared.reply.Reply.{Reply}
 use Rattle.board.specs.declared.reply.Reply.TheVariants.{Value, Done, Bytes, Took, BadDevice, Busy, Idle, NoMemory}
-use Rattle.board.specs.Devices.{DoesTo, GivesByDevice, GivesDevice, AreSet, DoesIf, IsDeviceStep, IsUnmet, MayReplyDevice, StaysSo, TakesMemoryFor, can_plug, device_reply, has_effect_at, oldest_at, received_reply, reply_at, taken_reply, told_reply, waits_for_disk, waits_there}
+use Rattle.board.specs.Devices.{DoesTo, GivesByDevice, GivesDevice, AreSet, DoesIf, IsDeviceStep, IsUnmet, MayReplyDevice, StaysSo, TakesMemoryFor, can_plug, device_reply, has_effect_at, received_reply, reply_at, taken_reply, told_reply, waits_for_disk, waits_there}
 use Rattle.board.specs.Waiting.{may_wait_there}
 use Rattle.board.specs.Image.{Health}
 use Rattle.board.specs.Outcome.{Outcome, replies}
@@ -128,18 +129,23 @@ received_may {A} frame (Some (Frame Full)) reply is =
     subst (λ (r : Reply A). MayReplyDevice (Receive frame) r) (same_Some (Took 0) reply is) tt
 received_may frame (Some _) reply is = absurd (cc)
 
-taken_may : {A : Type 0} (found : Option Card) (reply : Reply A)
-    → option_map (λ card. Bytes (unwrap_or (oldest_of card) [])) found ≡ Some reply → MayReplyDevice TakeSent reply
+taken_may : {A : Type 0} (found : Option (Option (List ℕ))) (reply : Reply A)
+    → option_map (λ sent. Bytes (unwrap_or sent [])) found ≡ Some reply → MayReplyDevice TakeSent reply
 taken_may None reply is = absurd (cc)
-taken_may {A} (Some card) reply is =
-    subst (λ (r : Reply A). MayReplyDevice TakeSent r) (same_Some (Bytes (unwrap_or (oldest_of card) [])) reply is)
-    tt
+taken_may {A} (Some sent) reply is =
+    subst (λ (r : Reply A). MayReplyDevice TakeSent r) (same_Some (Bytes (unwrap_or sent [])) reply is) tt
 
 linked_may : {A : Type 0} (up : Bool) (found : Option Card) (reply : Reply A)
     → option_map (λ card. Done) found ≡ Some reply → MayReplyDevice (SetLink up) reply
 linked_may up None reply is = absurd (cc)
 linked_may {A} up (Some card) reply is =
     subst (λ (r : Reply A). MayReplyDevice (SetLink up) r) (same_Some Done reply is) tt
+
+resized_may : {A : Type 0} (cols rows : ℕ) (found : Option Terminal) (reply : Reply A)
+    → option_map (λ terminal. Done) found ≡ Some reply → MayReplyDevice (Resize cols rows) reply
+resized_may cols rows None reply is = absurd (cc)
+resized_may {A} cols rows (Some terminal) reply is =
+    subst (λ (r : Reply A). MayReplyDevice (Resize cols rows) r) (same_Some Done reply is) tt
 
 told_may : {A : Type 0} (said : HostEvent) (found : Option Bool) (reply : Reply A)
     → option_map told_reply found ≡ Some reply → MayReplyDevice (Host said) reply
@@ -159,8 +165,9 @@ reply_may n (Write offset width value) state reply is =
 reply_may n (Supply bytes) state reply is = found_may (Supply bytes) (slice_get state.devices n) reply is
 reply_may n (Receive frame) state reply is =
     received_may frame (receive_refusal frame (card_at n state.devices)) reply is
-reply_may n TakeSent state reply is = taken_may (card_at n state.devices) reply is
+reply_may n TakeSent state reply is = taken_may (outgoing_at n state.devices) reply is
 reply_may n (SetLink up) state reply is = linked_may up (card_at n state.devices) reply is
+reply_may n (Resize cols rows) state reply is = resized_may cols rows (terminal_at n state.devices) reply is
 reply_may n (Host said) state reply is = told_may said (has_effect_at n said state.devices) reply is
 
 bad_may : {A : Type 0} (what : DeviceEvent A) → MayReplyDevice what BadDevice
@@ -171,6 +178,7 @@ bad_may (Supply bytes) = tt
 bad_may (Receive frame) = tt
 bad_may TakeSent = tt
 bad_may (SetLink up) = tt
+bad_may (Resize cols rows) = tt
 bad_may (Host said) = tt
 
 pub device_replies : {A : Type 0} (n : ℕ) (what : DeviceEvent A) (state : SlotState) (before after : Health)
@@ -230,11 +238,12 @@ alters_once : {A : Type 0} (what : DeviceEvent A) (n : ℕ) (m one other : Memor
     → DoesTo what n m one old new → DoesTo what n m other old new' → (one ≡ other) × (new ≡ new')
 alters_once (Plug spec) n m one other old new new' a b = set_once _ m one other new new' a b
 alters_once (SetLink up) n m one other old new new' a b = set_once _ m one other new new' a b
+alters_once (Resize cols rows) n m one other old new new' a b = set_once _ m one other new new' a b
 alters_once (Receive frame) n m one other old new new' a b =
     does_if_once (is_none (receive_refusal frame (card_at n old))) (Receives frame) n m one other old new new'
     (reception_once frame n m one other old new new') a b
 alters_once TakeSent n m one other old new new' a b =
-    does_if_once (is_some (oldest_at n old)) TakesSent n m one other old new new'
+    does_if_once (is_some (sent_by n old)) TakesSent n m one other old new new'
     (taking_once n m one other old new new') a b
 alters_once (Read offset width) n m one other old new new' a b =
     still_once n m one other old new new'
@@ -341,18 +350,18 @@ pub read_given : (A : Type 0) (n offset width value : ℕ) (state : SlotState) (
 read_given A n offset width value state health is =
     read_at A n offset width value state health (slice_get state.devices n) refl (sym is)
 
--- ---- a frame is taken away by who has copied it
+-- ---- what was sent is taken away by who has copied it
 
-abbrev answer_by : (A : Type 0) → Option Card → Reply A
-answer_by A found = unwrap_or (option_map (λ card. Bytes (unwrap_or (oldest_of card) [])) found) BadDevice
+abbrev answer_by : (A : Type 0) → Option (Option (List ℕ)) → Reply A
+answer_by A found = unwrap_or (option_map (λ sent. Bytes (unwrap_or sent [])) found) BadDevice
 
-taken_by : (A : Type 0) (found : Option Card) → answer_by A found ≢ NoMemory
+taken_by : (A : Type 0) (found : Option (Option (List ℕ))) → answer_by A found ≢ NoMemory
 taken_by A None = λ same. absurd (cc (same))
-taken_by A (Some card) = λ same. absurd (cc (same))
+taken_by A (Some sent) = λ same. absurd (cc (same))
 
 -- there is memory for that
 pub taken_answered : (A : Type 0) (n : ℕ) (devices : List DeviceState) → taken_reply {A = A} n devices ≢ NoMemory
-taken_answered A n devices = taken_by A (card_at n devices)
+taken_answered A n devices = taken_by A (outgoing_at n devices)
 
 -- ---- a busy answer and an idle one change nothing
 
@@ -438,6 +447,7 @@ waiting_stops offset (Block disk) waits = both_true (is_any disk.tags) (may_stop
     both_true false stops is = absurd (cc is)
 waiting_stops offset (Entropy pool) waits = absurd (cc waits)
 waiting_stops offset (Network card) waits = absurd (cc waits)
+waiting_stops offset (Console terminal) waits = absurd (cc waits)
 
 pub device_may_wait : {A : Type 0} (n : ℕ) (what : DeviceEvent A) (devices : List DeviceState)
     → waits_for_disk what n devices ≡ true → may_wait_there what ≡ true

@@ -27,15 +27,15 @@ use Rattle.block_device.specs.declared.operation.HostEvent.TheVariants as host
 use Rattle.hosted_disk.specs.Disk.{queue_of}
 use Rattle.hosted_disk.specs.Told.{QueueTold}
 use Rattle.block_device.specs.declared.device.BlockDevice.{BlockDevice}
-use Rattle.device_list.specs.Model.{ModelState, Entropy, Network, Block as BlockModel}
+use Rattle.device_list.specs.Model.{ModelState, Entropy, Network, Block as BlockModel, Console as ConsoleModel}
 use Rattle.device_list.specs.Device as device
 use Rattle.device_list.specs.Device.{DeviceState, Receives, TakesSent, Told}
-use Rattle.device_list.specs.Card.{receive_refusal, with_frame, without_oldest}
-use Rattle.device_list.specs.List.{card_at}
-use Rattle.device_list.specs.Model.{Serves, supplied_model, with_card}
+use Rattle.device_list.specs.Card.{receive_refusal, with_frame}
+use Rattle.device_list.specs.List.{card_at, sent_by}
+use Rattle.device_list.specs.Model.{Serves, supplied_model, with_card, without_sent}
 use Rattle.board.specs.declared.event.DeviceEvent.{DeviceEvent}
 use Rattle.board.specs.declared.event.DeviceEvent.TheVariants as event
-use Rattle.board.specs.Devices.{Alters, DoesIf, DoesTo, has_effect_at, oldest_at, waits_there}
+use Rattle.board.specs.Devices.{Alters, DoesIf, DoesTo, has_effect_at, waits_there}
 use Rattle.board.proofs.FurtherDevices.{of_device}
 use Rattle.mmio_window.specs.declared.action.Action.{Action}
 use Rattle.mmio_window.specs.declared.action.Action.TheVariants.{Notify}
@@ -245,6 +245,11 @@ module _ (K : Memory → Memory → Type 0) (left : IsLeftByWrites K) where
       unless_left MemoryLeft memory_left disk.on_hold disk.device (queue_of m v disk) (queue_of n w h.after)
       h.serves.looks
   serves_left (BlockModel disk) (suc q) m n v w model' h = same_left m n h.serves.memory
+  serves_left (ConsoleModel terminal) zero m n v w model' h =
+      notified_left _ 0 (queue_at 0 v) h.serves.notified.ending m n v w _ _ h.serves.notified.notified
+  serves_left (ConsoleModel terminal) (suc zero) m n v w model' h =
+      notified_left _ 1 (queue_at 1 v) h.serves.notified.ending m n v w _ _ h.serves.notified.notified
+  serves_left (ConsoleModel terminal) (suc (suc q)) m n v w model' h = same_left m n h.serves.memory
 
   -- what the host says of a further disk
   told_queue_left : (said : HostEvent) (device : BlockDevice) (on_hold : Bool) (old new : HostedQueue)
@@ -285,12 +290,13 @@ module _ (K : Memory → Memory → Type 0) (left : IsLeftByWrites K) where
       → DoesTo what i m n old new → K m n
   at_left (event.Plug spec) i m n old new h = same_left m n h.memory
   at_left (event.SetLink up) i m n old new h = same_left m n h.memory
+  at_left (event.Resize cols rows) i m n old new h = same_left m n h.memory
   at_left (event.Receive frame) i m n old new h =
       does_if_left (is_none (receive_refusal frame (card_at i old))) (Receives frame) i m n old new
       (λ d d' x. serves_left (with_card (with_frame frame) d.model) 0 m n d.window d'.window d'.model x) h
   at_left event.TakeSent i m n old new h =
-      does_if_left (is_some (oldest_at i old)) TakesSent i m n old new
-      (λ d d' x. serves_left (with_card without_oldest d.model) 1 m n d.window d'.window d'.model x) h
+      does_if_left (is_some (sent_by i old)) TakesSent i m n old new
+      (λ d d' x. serves_left (without_sent d.model) 1 m n d.window d'.window d'.model x) h
   at_left {A} (event.Read offset width) i m n old new h =
       alters_left {A = A} (event.Read offset width) m n h.before h.after h.changes
   at_left (event.Write offset width value) i m n old new h =

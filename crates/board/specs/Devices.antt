@@ -8,12 +8,12 @@ use Rattle.network_device.specs.declared.refusal.FrameRefusal.TheVariants.{Full}
 use Rattle.device_list.specs.declared.refusal.ReceiveRefusal.{ReceiveRefusal}
 use Rattle.device_list.specs.declared.refusal.ReceiveRefusal.TheVariants.{Frame}
 use Rattle.device_list.specs.declared.spec.DeviceSpec.{DeviceSpec}
-use Rattle.device_list.specs.Card.{oldest_of, receive_refusal}
-use Rattle.device_list.specs.Device.{DeviceState, Receives, Supplies, TakesSent, Told, Writes, fresh_device, linked, register_of, supply_taken}
-use Rattle.device_list.specs.List.{At, IsRefusedFor, card_at, changed_at, disk_at, refusal_of, waits_at}
+use Rattle.device_list.specs.Card.{receive_refusal}
+use Rattle.device_list.specs.Device.{DeviceState, Receives, Supplies, TakesSent, Told, Writes, fresh_device, linked, register_of, resized, supply_taken}
+use Rattle.device_list.specs.List.{At, IsRefusedFor, card_at, changed_at, disk_at, outgoing_at, refusal_of, sent_by, terminal_at, waits_at}
 use Rattle.hosted_disk.specs.Told.{has_effect}
 use Rattle.board.specs.declared.event.DeviceEvent.{DeviceEvent}
-use Rattle.board.specs.declared.event.DeviceEvent.TheVariants.{Plug, Read, Write, Supply, Receive, TakeSent, SetLink, Host}
+use Rattle.board.specs.declared.event.DeviceEvent.TheVariants.{Plug, Read, Write, Supply, Receive, TakeSent, SetLink, Resize, Host}
 use Rattle.board.specs.declared.reply.Reply.{Reply}
 use Rattle.board.specs.declared.reply.Reply.TheVariants.{Value, Done, Bytes, Took, BadDevice, Busy, Idle, NoMemory}
 use Rattle.board.specs.Image.{Health}
@@ -36,17 +36,13 @@ received_reply frame None = Some (Took (length frame))
 received_reply frame (Some (Frame Full)) = Some (Took 0)
 received_reply frame (Some why) = None
 
--- the oldest frame that device n sent and its host hasn't taken
-abbrev pub oldest_at : ℕ → List DeviceState → Option (List ℕ)
-oldest_at n devices = option_and_then oldest_of (card_at n devices)
-
--- whether there is one, of a network card
+-- whether anything waits that the driver of device n sent, if it sends anything
 abbrev pub has_sent : ℕ → List DeviceState → Option Bool
-has_sent n devices = option_map (λ card. is_some (oldest_of card)) (card_at n devices)
+has_sent n devices = option_map (λ sent. is_some sent) (outgoing_at n devices)
 
--- what the host is answered that takes it: no bytes where none waits
+-- what the host is answered that takes it: no bytes where nothing waits
 abbrev pub sent_reply : {A : Type 0} → ℕ → List DeviceState → Option (Reply A)
-sent_reply n devices = option_map (λ card. Bytes (unwrap_or (oldest_of card) [])) (card_at n devices)
+sent_reply n devices = option_map (λ sent. Bytes (unwrap_or sent [])) (outgoing_at n devices)
 
 abbrev pub taken_reply : {A : Type 0} → ℕ → List DeviceState → Reply A
 taken_reply n devices = unwrap_or (sent_reply n devices) BadDevice
@@ -78,6 +74,7 @@ reply_at n (Plug spec) state = if can_plug n spec state then Some Done else None
 reply_at n (Receive frame) state = received_reply frame (receive_refusal frame (card_at n state.devices))
 reply_at n TakeSent state = sent_reply n state.devices
 reply_at n (SetLink up) state = option_map (λ card. Done) (card_at n state.devices)
+reply_at n (Resize cols rows) state = option_map (λ terminal. Done) (terminal_at n state.devices)
 reply_at n (Host said) state = option_map told_reply (has_effect_at n said state.devices)
 reply_at n what state = option_and_then (device_reply what) (slice_get state.devices n)
 
@@ -108,9 +105,10 @@ abbrev pub DoesTo : {A : Type 0} → DeviceEvent A → ℕ → Memory → Memory
     → Type 0
 DoesTo (Plug spec) n m m' old new = AreSet (old ++ fresh_device spec ∷ []) m m' new
 DoesTo (SetLink up) n m m' old new = AreSet (changed_at (linked up) n old) m m' new
+DoesTo (Resize cols rows) n m m' old new = AreSet (changed_at (resized cols rows) n old) m m' new
 DoesTo (Receive frame) n m m' old new =
     DoesIf (is_none (receive_refusal frame (card_at n old))) (Receives frame) n m m' old new
-DoesTo TakeSent n m m' old new = DoesIf (is_some (oldest_at n old)) TakesSent n m m' old new
+DoesTo TakeSent n m m' old new = DoesIf (is_some (sent_by n old)) TakesSent n m m' old new
 DoesTo (Write offset width value) n m m' old new =
     DoesIf (not (waits_there n offset old)) (Writes offset width value) n m m' old new
 DoesTo (Host said) n m m' old new =
@@ -139,11 +137,10 @@ abbrev pub GivesDevice : {A : Type 0} → ℕ → DeviceEvent A → SlotState �
 GivesDevice n what state before after outcome =
     GivesByDevice (reply_at n what state) n what state before after outcome
 
--- whether memory may be wanting for it: a device that is plugged in takes its own, and a frame that is taken is
--- copied
+-- whether memory may be wanting for it: a device that is plugged in takes its own, and what is taken is copied
 abbrev pub TakesMemoryFor : {A : Type 0} → ℕ → DeviceEvent A → SlotState → Type 0
 TakesMemoryFor n (Plug spec) state = can_plug n spec state ≡ true
-TakesMemoryFor n TakeSent state = IsSome (oldest_at n state.devices)
+TakesMemoryFor n TakeSent state = IsSome (sent_by n state.devices)
 TakesMemoryFor n what state = ⊥
 
 -- there was none: nothing happens
@@ -165,6 +162,7 @@ MayReplyDevice (Receive frame) (Took taken) = ⊤
 MayReplyDevice TakeSent (Bytes frame) = ⊤
 MayReplyDevice TakeSent NoMemory = ⊤
 MayReplyDevice (SetLink up) Done = ⊤
+MayReplyDevice (Resize cols rows) Done = ⊤
 MayReplyDevice (Write offset width value) Busy = ⊤
 MayReplyDevice (Host said) Done = ⊤
 MayReplyDevice (Host said) Idle = ⊤

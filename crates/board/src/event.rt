@@ -83,14 +83,18 @@ pub enum DeviceEvent<A: Allocator = Global> {
     Read { offset: u16, width: u8 },
     /// Its driver writes `width` bytes at an offset of its window (4.2.2). Bits of the value above the width are ignored.
     Write { offset: u16, width: u8, value: u32 },
-    /// The host supplies these bytes to an entropy device (5.4). Those that find no room aren't taken.
+    /// The host supplies these bytes: random ones to an entropy device (5.4), or what is typed to a console (5.3). Those that find
+    /// no room aren't taken.
     Supply { bytes: Bytes<A> },
     /// The host hands a network card a frame (5.1). It is taken whole, or not at all where there is no room for it.
     Receive { frame: Bytes<A> },
-    /// The host takes the oldest frame that a network card's driver sent: no bytes where none waits.
+    /// The host takes what the driver sent: the oldest frame of a network card, or all output of a console. No bytes where
+    /// nothing waits.
     TakeSent,
     /// A network card's link goes up or down (5.1.4).
     SetLink { up: bool },
+    /// A console gets another size (5.3.4).
+    Resize { cols: u16, rows: u16 },
     /// The host says this of a disk that it serves.
     Host(HostEvent),
 }

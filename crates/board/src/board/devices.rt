@@ -4,10 +4,10 @@ ghost use Rattle.std.specs.Prelude.{◌≡◌, ◌++◌, [], All, None, Some, If
 ghost use Rattle.std.specs.List.{slice_get};
 ghost use Rattle.std.specs.Option.{option_and_then, option_map};
 ghost use Rattle.block_device.specs.Flights.{TagIsHeld};
-ghost use Rattle.device_list.specs.List.{disk_at, is_starved_at};
+ghost use Rattle.device_list.specs.List.{disk_at, is_starved_at, sent_by};
 ghost use Rattle.board.specs.declared.event.DeviceEvent.{DeviceEvent};
 ghost use Rattle.board.specs.declared.event.EventKind.{EventKind};
-ghost use Rattle.board.specs.Devices.{IsPlugRefusal, IsPlugged, has_sent, oldest_at, taken_reply};
+ghost use Rattle.board.specs.Devices.{IsPlugRefusal, IsPlugged, has_sent, taken_reply};
 ghost use Rattle.board.specs.Image.{Tells};
 ghost use Rattle.board.specs.Slot.{BoardSlot};
 ghost use Rattle.board.specs.World.{Answers, KeepsOthers, disturbed_of, extents_of, world_of};
@@ -53,11 +53,11 @@ impl<I: Image, A: Allocator> Board<I, A> {
         slot.slot().starved(device)
     }
 
-    /// The oldest frame that a network card's driver sent and its host hasn't taken, in two parts. There is none where no
-    /// frame waits, of a device that is no network card, and where there is no such slot or device.
+    /// What the driver of a network card or of a console sent and its host takes now, in two parts: the oldest frame, or all
+    /// output. There is none where nothing waits, of another device, and where there is no such slot or device.
     pub fn sent(&self, slot: u8, device: u8) -> Option<(&[u8], &[u8])>
         ensures { option_map (λ parts. parts.0.now ++ parts.1.now) result ≡
-            option_and_then (λ found. oldest_at device found.devices) (slice_get self.now.slots slot) }
+            option_and_then (λ found. sent_by device found.devices) (slice_get self.now.slots slot) }
     {
         let slot = self.slot(slot)?;
         slot.slot().sent(device)
@@ -99,8 +99,8 @@ impl<I: Image, A: Allocator + Copy> Board<I, A> {
         found.receive(device, frame)
     }
 
-    /// Takes away the frame that `sent` tells: the event of that, for who has copied the frame. Answers whether there was
-    /// one. There is no answer of a device that is no network card, and where there is no such slot or device: nothing has
+    /// Takes away what `sent` tells: the event of that, for who has copied it. Answers whether anything waited. There is no
+    /// answer of a device that is no network card and no console, and where there is no such slot or device: nothing has
     /// changed then. No memory is taken.
     pub fn take_sent(&mut self, slot: u8, device: u8) -> Option<bool>
         ensures value { result ≡

@@ -149,7 +149,7 @@ impl<A: Allocator + Copy> Guest<A> {
         self.slot.receive_frame(device, frame)
     }
 
-    /// Takes away the oldest frame that a network card's driver sent.
+    /// Takes away what a further device's driver sent.
     pub(crate) fn take_sent(&mut self, device: u8) -> Option<bool>
         ensures value { result ≡ has_sent device self.old.devices }
         ensures given { (image : List ℕ) (health : Health) →

@@ -6,11 +6,11 @@ ghost use Rattle.std.specs.Option.{option_map};
 ghost use Rattle.guest_memory.specs.Memory.{SameRange};
 ghost use Rattle.block_device.specs.Flights.{TagIsHeld};
 ghost use Rattle.device_list.specs.Device.{fresh_device};
-ghost use Rattle.device_list.specs.List.{IsRefusedFor, are_at_work, disk_at, is_starved_at, refusal_of};
+ghost use Rattle.device_list.specs.List.{IsRefusedFor, are_at_work, disk_at, is_starved_at, refusal_of, sent_by};
 ghost use Rattle.board.specs.declared.event.DeviceEvent.{DeviceEvent};
 ghost use Rattle.board.specs.declared.event.EventKind.{EventKind};
 ghost use Rattle.board.specs.declared.reply.Reply.{Reply};
-ghost use Rattle.board.specs.Devices.{GivesDevice, TakesMemoryFor, can_plug, has_sent, oldest_at, taken_reply};
+ghost use Rattle.board.specs.Devices.{GivesDevice, TakesMemoryFor, can_plug, has_sent, taken_reply};
 ghost use Rattle.board.specs.Image.{Health};
 ghost use Rattle.board.specs.Outcome.{replies};
 ghost use Rattle.board.specs.Quiet.{GivesQuietly};
@@ -50,6 +50,7 @@ impl<A: Allocator + Copy> Slot<A> {
             DeviceEvent::Receive { frame } => self.receive_frame(device, frame.as_slice()),
             DeviceEvent::TakeSent => self.take_sent(alloc, device),
             DeviceEvent::SetLink { up } => self.set_link(device, *up),
+            DeviceEvent::Resize { cols, rows } => self.resize_device(device, *cols, *rows),
             DeviceEvent::Host(said) => self.tell_device(device, *said),
         }
     }
@@ -166,27 +167,27 @@ impl<A: Allocator + Copy> Slot<A> {
         }
     }
 
-    // Takes the oldest frame that a network card's driver sent.
+    // Takes what a device's driver sent.
     fn take_sent(&mut self, alloc: A, device: u8) -> Reply<A>
         ensures given { GivesQuietly self.old (EventKind.Device device DeviceEvent.TakeSent) self.new result }
         ensures rest { self.new ≡ record self.old { memory = self.new.memory; devices = self.new.devices } }
         ensures range { SameRange self.old.memory self.new.memory }
         ensures there { result ≢ Reply.BadSlot }
         ensures in_range { result ≢ Reply.BadRange }
-        ensures no_memory { result ≡ Reply.NoMemory → IsSome (oldest_at device self.old.devices) }
+        ensures no_memory { result ≡ Reply.NoMemory → IsSome (sent_by device self.old.devices) }
     {
         let Some((front, back)) = self.devices.sent(device) else {
-            return self.no_frame(alloc, device);
+            return self.nothing_sent(alloc, device);
         };
-        let Ok(frame) = joined(alloc, front, back) else {
+        let Ok(bytes) = joined(alloc, front, back) else {
             return Reply::NoMemory;
         };
         let (memory, room) = (&mut self.memory, &mut self.chain);
         let _ = self.devices.take_sent(device, memory, room);
-        Reply::Bytes(frame)
+        Reply::Bytes(bytes)
     }
 
-    /// Takes away the oldest frame that a network card's driver sent. Answers whether there was one, of a network card.
+    /// Takes away what a device's driver sent. Answers whether anything waited, of a device whose driver sends anything.
     pub(crate) fn drop_sent(&mut self, device: u8) -> Option<bool>
         ensures value { result ≡ has_sent device self.old.devices }
         ensures given { (image : List ℕ) (health : Health) →
@@ -196,7 +197,7 @@ impl<A: Allocator + Copy> Slot<A> {
         ensures rest { self.new ≡ record self.old { memory = self.new.memory; devices = self.new.devices } }
         ensures range { SameRange self.old.memory self.new.memory }
     {
-        if !self.devices.has_card(device) {
+        if !self.devices.has_sender(device) {
             return None;
         }
         let (memory, room) = (&mut self.memory, &mut self.chain);
@@ -215,9 +216,9 @@ impl<A: Allocator + Copy> Slot<A> {
         self.devices.add(alloc, spec)
     }
 
-    // What the host is answered that takes a frame where none waits.
-    fn no_frame(&self, alloc: A, device: u8) -> Reply<A>
-        requires { oldest_at device self.now.devices ≡ None }
+    // What the host is answered that takes what was sent where nothing waits.
+    fn nothing_sent(&self, alloc: A, device: u8) -> Reply<A>
+        requires { sent_by device self.now.devices ≡ None }
         ensures given { (image : List ℕ) (health : Health) →
             GivesDevice device DeviceEvent.TakeSent (state_of image self.now) health health
             (replies (state_of image self.now) result) }
@@ -225,7 +226,7 @@ impl<A: Allocator + Copy> Slot<A> {
         ensures in_range { result ≢ Reply.BadRange }
         ensures no_memory { result ≢ Reply.NoMemory }
     {
-        if self.devices.has_card(device) {
+        if self.devices.has_sender(device) {
             Reply::Bytes(Bytes::new(alloc))
         } else {
             Reply::BadDevice
@@ -248,11 +249,28 @@ impl<A: Allocator + Copy> Slot<A> {
             Reply::BadDevice
         }
     }
+
+    // Changes a console's size.
+    fn resize_device(&mut self, device: u8, cols: u16, rows: u16) -> Reply<A>
+        ensures given { (image : List ℕ) (health : Health) →
+            GivesDevice device (DeviceEvent.Resize cols rows) (state_of image self.old) health health
+            (replies (state_of image self.new) result) }
+        ensures rest { self.new ≡ record self.old { devices = self.new.devices } }
+        ensures there { result ≢ Reply.BadSlot }
+        ensures in_range { result ≢ Reply.BadRange }
+        ensures no_memory { result ≢ Reply.NoMemory }
+    {
+        if self.devices.resize(device, cols, rows) {
+            Reply::Done
+        } else {
+            Reply::BadDevice
+        }
+    }
 }
 
-// Two parts of a frame, one behind the other.
+// Two parts, one behind the other.
 fn joined<A: Allocator>(alloc: A, front: &[u8], back: &[u8]) -> Result<Bytes<A>, AllocError>
-    ensures { IfOk result (λ frame. frame ≡ front.now ++ back.now) }
+    ensures { IfOk result (λ bytes. bytes ≡ front.now ++ back.now) }
 {
     let mut bytes = Vec::with_capacity(alloc, front.len() + back.len())?;
     bytes.extend_from_slice(front)?;
@@ -268,9 +286,9 @@ impl<A: Allocator> Slot<A> {
         self.devices.get(device)
     }
 
-    /// The oldest frame that a network card's driver sent, in two parts.
+    /// What a device's driver sent and its host takes now, in two parts.
     pub(crate) fn sent(&self, device: u8) -> Option<(&[u8], &[u8])>
-        ensures { option_map (λ parts. parts.0.now ++ parts.1.now) result ≡ oldest_at device self.now.devices }
+        ensures { option_map (λ parts. parts.0.now ++ parts.1.now) result ≡ sent_by device self.now.devices }
     {
         self.devices.sent(device)
     }
