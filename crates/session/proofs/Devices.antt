@@ -11,14 +11,15 @@ use Rattle.block_device.specs.Flights.{is_any}
 use Rattle.network_device.specs.declared.refusal.FrameRefusal.TheVariants.{Full}
 use Rattle.device_list.specs.declared.refusal.ReceiveRefusal.{ReceiveRefusal}
 use Rattle.device_list.specs.declared.refusal.ReceiveRefusal.TheVariants.{Frame}
-use Rattle.device_list.specs.Card.{Card, oldest_of, receive_refusal}
+use Rattle.device_list.specs.Card.{Card, receive_refusal}
 use Rattle.device_list.specs.Device.{DeviceState, supply_taken}
-use Rattle.device_list.specs.List.{card_at, disk_at, waits_at}
+use Rattle.device_list.specs.List.{card_at, disk_at, outgoing_at, sent_by, terminal_at, waits_at}
+use Rattle.device_list.specs.Terminal.{Terminal}
 use Rattle.hosted_disk.specs.Disk.{HostedDisk}
 use Rattle.hosted_disk.specs.Told.{has_effect}
 use Rattle.block_device.specs.declared.operation.HostEvent.{HostEvent}
 use Rattle.board.specs.declared.event.DeviceEvent.{DeviceEvent}
-use Rattle.board.specs.declared.event.DeviceEvent.TheVariants.{Plug, Read, Write, Supply, Receive, TakeSent, SetLink, Host}
+use Rattle.board.specs.declared.event.DeviceEvent.TheVariants.{Plug, Read, Write, Supply, Receive, TakeSent, SetLink, Resize, Host}
 use Rattle.board.specs.declared.event.EventKind.TheVariants.{Device}
 use Rattle.board.specs.declared.pause.Pause.{Pause}
 use Rattle.board.specs.declared.reply.Record.{Record}
@@ -26,7 +27,7 @@ use Rattle.board.specs.declared.reply.Reply.{Reply}
 use Rattle.board.specs.declared.reply.Reply.TheVariants.{Value, Done, Bytes, Took, BadSlot, BadRange, BadDevice, NoMemory}
 use Rattle.board.specs.declared.reply.Reply.TheVariants as told
 use Rattle.board.specs.Backing.{HostDisk, tags_in}
-use Rattle.board.specs.Devices.{GivesByDevice, MayReplyDevice, TakesMemoryFor, can_plug, device_reply, has_effect_at, has_sent, oldest_at, received_reply, reply_at, taken_reply, told_reply, waits_for_disk}
+use Rattle.board.specs.Devices.{GivesByDevice, MayReplyDevice, TakesMemoryFor, can_plug, device_reply, has_effect_at, has_sent, received_reply, reply_at, taken_reply, told_reply, waits_for_disk}
 use Rattle.board.specs.Hosting.{OwnGives}
 use Rattle.board.specs.Image.{Health}
 use Rattle.board.specs.Outcome.{Outcome, replies}
@@ -100,10 +101,13 @@ never_bad n (Write offset width value) state is =
 never_bad n (Supply bytes) state is = bad_found (Supply bytes) (slice_get state.devices n) is
 never_bad n (Receive frame) state is = bad_received frame (receive_refusal frame (card_at n state.devices)) is
 never_bad {A} n TakeSent state is =
-    bad_card {A = A} (λ card. Bytes (unwrap_or (oldest_of card) [])) (card_at n state.devices)
-    (λ card same. absurd (cc (same))) is
+    bad_card {A = A} (λ sent. Bytes (unwrap_or sent [])) (outgoing_at n state.devices)
+    (λ sent same. absurd (cc (same))) is
 never_bad {A} n (SetLink up) state is =
     bad_card {A = A} {X = Card} (λ card. Done) (card_at n state.devices) (λ card same. absurd (cc (same))) is
+never_bad {A} n (Resize cols rows) state is =
+    bad_card {A = A} {X = Terminal} (λ terminal. Done) (terminal_at n state.devices)
+    (λ terminal same. absurd (cc (same))) is
 never_bad {A} n (Host said) state is =
     bad_card {A = A} {X = Bool} told_reply (has_effect_at n said state.devices) (bad_word A) is
 
@@ -113,15 +117,15 @@ plug_there : {A : Type 0} (can : Bool) → can ≡ true
 plug_there true takes is = absurd (cc (is))
 plug_there false takes is = absurd (cc (takes))
 
-frame_there : {A : Type 0} (found : Option Card) → IsSome (option_and_then oldest_of found)
-    → ◌≡◌ {A = Option (Reply A)} (option_map (λ card. Bytes (unwrap_or (oldest_of card) [])) found) None → ⊥
-frame_there None waits is = absurd (cc (waits))
-frame_there (Some card) waits is = absurd (cc (is))
+sent_there : {A : Type 0} (found : Option (Option (List ℕ))) → IsSome (option_and_then (λ sent. sent) found)
+    → ◌≡◌ {A = Option (Reply A)} (option_map (λ sent. Bytes (unwrap_or sent [])) found) None → ⊥
+sent_there None waits is = absurd (cc (waits))
+sent_there (Some sent) waits is = absurd (cc (is))
 
 taken_there : {A : Type 0} (n : ℕ) (what : DeviceEvent A) (state : SlotState) → TakesMemoryFor n what state
     → reply_at n what state ≡ None → ⊥
 taken_there {A} n (Plug spec) state takes is = plug_there {A = A} (can_plug n spec state) takes is
-taken_there {A} n TakeSent state takes is = frame_there {A = A} (card_at n state.devices) takes is
+taken_there {A} n TakeSent state takes is = sent_there {A = A} (outgoing_at n state.devices) takes is
 taken_there n _ state takes is = absurd takes
 
 -- ---- what it is answered
@@ -236,6 +240,7 @@ never_missing (Supply bytes) may = may
 never_missing (Receive frame) may = may
 never_missing TakeSent may = may
 never_missing (SetLink up) may = may
+never_missing (Resize cols rows) may = may
 never_missing (Host said) may = may
 
 never_range : {A : Type 0} (what : DeviceEvent A) → MayReplyDevice what BadRange → ⊥
@@ -246,6 +251,7 @@ never_range (Supply bytes) may = may
 never_range (Receive frame) may = may
 never_range TakeSent may = may
 never_range (SetLink up) may = may
+never_range (Resize cols rows) may = may
 never_range (Host said) may = may
 
 -- ---- which responses there may be
@@ -299,6 +305,16 @@ links_suit n up (Answered reply) suits = absurd suits
 links_suit n up More suits = absurd suits
 links_suit n up Busy suits = tt
 links_suit n up Idle suits = absurd suits
+
+pub resizes_suit : {A : Type 0} (n cols rows : ℕ) (r : Response A) → SuitsCall (Device n (Resize cols rows)) r
+    → IsDoneOrRefusing r
+resizes_suit n cols rows (Answered Done) suits = tt
+resizes_suit n cols rows (Answered BadSlot) suits = tt
+resizes_suit n cols rows (Answered BadDevice) suits = tt
+resizes_suit n cols rows (Answered reply) suits = absurd suits
+resizes_suit n cols rows More suits = absurd suits
+resizes_suit n cols rows Busy suits = tt
+resizes_suit n cols rows Idle suits = absurd suits
 
 pub supplies_suit : {A : Type 0} (n : ℕ) (bytes : List ℕ) (reply : Reply A) → Suits (Device n (Supply bytes)) reply
     → IsTaking (Answered reply)
@@ -437,40 +453,39 @@ told_by_test A frame count false is (inl same) = absurd (grind (arith, nat_tests
 told_by_test A frame count false is (inr none) =
     let answer : ℕ → Response A = λ m. Answered (Took m) in ap answer none
 
--- ---- a frame is taken away
+-- ---- what was sent is taken away
 
--- by the card that there is
+-- by what waits
 pub record TakenAway (A : Type 0) (n : ℕ) (devices : List DeviceState) (taken : Bool) : Type 0 where
-  pub reply : ◌≡◌ {A = Reply A} (taken_reply n devices) (Bytes (unwrap_or (oldest_at n devices) []))
-  pub waited : IsTrue taken ↔ IsSome (oldest_at n devices)
+  pub reply : ◌≡◌ {A = Reply A} (taken_reply n devices) (Bytes (unwrap_or (sent_by n devices) []))
+  pub waited : IsTrue taken ↔ IsSome (sent_by n devices)
 
-waits_by : (oldest : Option (List ℕ)) → IsTrue (is_some oldest) ↔ IsSome oldest
+waits_by : (sent : Option (List ℕ)) → IsTrue (is_some sent) ↔ IsSome sent
 waits_by None = (λ is. absurd (cc (is)), λ some. absurd (cc (some)))
-waits_by (Some frame) = (λ is. refl, λ some. refl)
+waits_by (Some bytes) = (λ is. refl, λ some. refl)
 
-by_card : (A : Type 0) (cards : Option Card) (taken : Bool)
-    → option_map (λ card. is_some (oldest_of card)) cards ≡ Some taken
-    → ◌≡◌ {A = Reply A} (unwrap_or (option_map (λ card. Bytes (unwrap_or (oldest_of card) [])) cards) BadDevice)
-    (Bytes (unwrap_or (option_and_then oldest_of cards) []))
-    × (IsTrue taken ↔ IsSome (option_and_then oldest_of cards))
-by_card A None taken is = absurd (cc (is))
-by_card A (Some card) taken is = (
+by_sender : (A : Type 0) (found : Option (Option (List ℕ))) (taken : Bool)
+    → option_map (λ sent. is_some sent) found ≡ Some taken
+    → ◌≡◌ {A = Reply A} (unwrap_or (option_map (λ sent. Bytes (unwrap_or sent [])) found) BadDevice)
+    (Bytes (unwrap_or (option_and_then (λ sent. sent) found) []))
+    × (IsTrue taken ↔ IsSome (option_and_then (λ sent. sent) found))
+by_sender A None taken is = absurd (cc (is))
+by_sender A (Some sent) taken is = (
   refl,
-  subst (λ b. IsTrue b ↔ IsSome (oldest_of card)) (same_Some (is_some (oldest_of card)) taken is)
-      (waits_by (oldest_of card)),
+  subst (λ b. IsTrue b ↔ IsSome sent) (same_Some (is_some sent) taken is) (waits_by sent),
 )
 
 pub taken_away : (A : Type 0) (n : ℕ) (devices : List DeviceState) (taken : Bool) → has_sent n devices ≡ Some taken
     → TakenAway A n devices taken
 taken_away A n devices taken is =
-    let both = by_card A (card_at n devices) taken is in
+    let both = by_sender A (outgoing_at n devices) taken is in
     record { reply = both.0; waited = both.1 }
 
--- and of no card there is none
-no_card : (A : Type 0) (cards : Option Card) → option_map (λ card. is_some (oldest_of card)) cards ≡ None
-    → ◌≡◌ {A = Option (Reply A)} (option_map (λ card. Bytes (unwrap_or (oldest_of card) [])) cards) None
-no_card A None is = refl
-no_card A (Some card) is = absurd (cc (is))
+-- and of a device that sends nothing there is none
+no_sender : (A : Type 0) (found : Option (Option (List ℕ))) → option_map (λ sent. is_some sent) found ≡ None
+    → ◌≡◌ {A = Option (Reply A)} (option_map (λ sent. Bytes (unwrap_or sent [])) found) None
+no_sender A None is = refl
+no_sender A (Some sent) is = absurd (cc (is))
 
 -- ---- what no device takes changes nothing
 
@@ -503,13 +518,13 @@ refused_step s slot n what (Some found) here none =
     (refused_by n what (state_of s.image found) (world_of s).health (none found refl)))
     (λ limit found after waiting left reply. tt))
 
--- a slot without such a card gives no frame
+-- a slot without such a device gives nothing
 pub none_taken : (A : Type 0) (n : ℕ) (image : List ℕ) (o : Option BoardSlot)
     → option_and_then (λ found. has_sent n found.devices) o ≡ None → (found : BoardSlot) → o ≡ Some found
     → reply_at {A = A} n TakeSent (state_of image found) ≡ None
 none_taken A n image None is found here = absurd (cc (here))
 none_taken A n image (Some slot) is found here =
-    no_card A (card_at n found.devices)
+    no_sender A (outgoing_at n found.devices)
     (subst (λ (s : BoardSlot). has_sent n s.devices ≡ None) (same_Some slot found here) is)
 
 -- what such a refusal means

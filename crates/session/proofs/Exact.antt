@@ -25,7 +25,8 @@ use Rattle.block_device.specs.Flights.{InFlight, is_any}
 use Rattle.hosted_disk.specs.Told.{has_effect}
 use Rattle.device_list.specs.List.{disk_at}
 use Rattle.board.specs.Backing.{HostDisk, tags_in}
-use Rattle.board.specs.Devices.{has_sent, oldest_at, reply_at, taken_reply, waits_for_disk}
+use Rattle.device_list.specs.List.{sent_by}
+use Rattle.board.specs.Devices.{has_sent, reply_at, taken_reply, waits_for_disk}
 use Rattle.board.specs.Hosting.{CompletionGives, DropGives, HoldGives, HostGives, HostOrGives, OwnGives, ReleaseGives, has_part, must_wait, told_in, waits_now}
 use Rattle.board.specs.Image.{Health}
 use Rattle.board.specs.Outcome.{Outcome, replies}
@@ -732,7 +733,7 @@ module _ {A T : Type 0} (old new : SessionState) (slot n : ℕ) (what : DeviceEv
         device_refuses old new slot n what (Answered answer) wanted r pure means many call,
       )
 
--- a frame is taken away
+-- what was sent is taken away
 pub record SentCall (A : Type 0) (old new : SessionState) (slot n : ℕ) (taken : Bool) : Type 0 where
   pub told :
       IsToldCall {A = A} old slot (Device n TakeSent)
@@ -757,8 +758,8 @@ sent_call A old new slot n taken many idle value answers others extents image di
     by_slot None here is = absurd (cc (is))
     by_slot (Some found) here is =
         let away = taken_away A n found.devices taken is in
-        let same : sent_at slot n old.slots ≡ oldest_at n found.devices =
-        ap (option_and_then (λ (f : BoardSlot). oldest_at n f.devices)) here in
+        let same : sent_at slot n old.slots ≡ sent_by n found.devices =
+        ap (option_and_then (λ (f : BoardSlot). sent_by n f.devices)) here in
         let stepped = step A old new slot n TakeSent (taken_reply n found.devices) (answers found here) others
         extents image dirty outputs paused budget (λ lacks. absurd (cc (away.reply, lacks))) in
         let means : Means {A = A} (frame_response (sent_at slot n old.slots)) (Ok taken)

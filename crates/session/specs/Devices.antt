@@ -5,24 +5,24 @@ use Rattle.std.specs.Option.{option_and_then, option_map}
 use Rattle.mmio_window.specs.Interrupts.{interrupt_bits}
 use Rattle.block_device.specs.Flights.{taken_bits}
 use Rattle.device_list.specs.Device.{DeviceState}
-use Rattle.device_list.specs.List.{disk_at, is_starved_at}
+use Rattle.device_list.specs.List.{disk_at, is_starved_at, sent_by}
 use Rattle.board.specs.declared.event.DeviceEvent.{DeviceEvent}
-use Rattle.board.specs.Devices.{oldest_at, reply_at}
+use Rattle.board.specs.Devices.{reply_at}
 use Rattle.board.specs.Slot.{BoardSlot, state_of}
 use Rattle.session.specs.declared.told.DeviceWaits.{DeviceWaits}
 use Rattle.session.specs.Session.{SessionState}
 
--- the oldest frame that a slot's network card of this number sent and its host hasn't taken
+-- what the driver of a slot's device of this number sent and its host takes now
 abbrev pub sent_at : ℕ → ℕ → List BoardSlot → Option (List ℕ)
-sent_at slot device slots = option_and_then (λ found. oldest_at device found.devices) (slice_get slots slot)
+sent_at slot device slots = option_and_then (λ found. sent_by device found.devices) (slice_get slots slot)
 
 -- what waits for device n of a slot, which is in this state: its interrupt word, whether its driver waits for
--- the host, how long the oldest frame is, and which tags are in flight
+-- the host, how many bytes the host takes now, and which tags are in flight
 abbrev pub device_waits : ℕ → BoardSlot → DeviceState → DeviceWaits
 device_waits n found device = record {
   irq = interrupt_bits device.window.interrupts;
   starved = is_starved_at found.memory device;
-  sent = option_map (λ frame. length frame) (oldest_at n found.devices);
+  sent = option_map (λ bytes. length bytes) (sent_by n found.devices);
   tags = unwrap_or (option_map (λ disk. taken_bits disk.tags) (disk_at n found.devices)) 0;
 }
 

@@ -93,6 +93,26 @@ impl<A: Allocator + Copy> Session<A> {
         done(self.device_event(slot, device, DeviceEvent::SetLink { up }))
     }
 
+    /// Changes the size of a further console, and tells its driver (5.3.4). It is refused for a bad slot, for a device that is no
+    /// console, and while a service of the slot is paused.
+    pub fn resize_device(
+        &mut self,
+        slot: u8,
+        device: u8,
+        cols: u16,
+        rows: u16,
+    ) -> Result<(), Refusal>
+        ensures call { IsToldCall {A = A} self.old slot (EventKind.Device device (DeviceEvent.Resize cols rows))
+            (Means done_response result) self.new }
+        ensures bad_slot { IsErrOf result Refusal.BadSlot ↔ (length self.old.slots ≤ slot) }
+        ensures busy { IsErrOf result Refusal.Busy ↔ ¬ IsIdle slot self.old }
+        ensures bad_device { IsErrOf result Refusal.BadDevice ↔
+            (IsIdle slot self.old × TakesNothing {A = A} slot device (DeviceEvent.Resize cols rows) self.old) }
+    {
+        let resize = DeviceEvent::Resize { cols, rows };
+        done(self.device_event(slot, device, resize))
+    }
+
     // Does this to a further device, whose answer takes no memory.
     pub(crate) fn device_event(&mut self, slot: u8, device: u8, what: DeviceEvent<A>) -> Response<A>
         requires { AnswersInPlace (EventKind.Device device what) }
@@ -105,8 +125,8 @@ impl<A: Allocator + Copy> Session<A> {
         response
     }
 
-    /// Supplies an entropy device with random bytes (5.4), and answers how many it took: the first ones. The chains on offer are
-    /// filled then. It is refused for a bad slot, for a device that takes none, and while a service of the slot is paused.
+    /// Supplies an entropy device with random bytes (5.4), or types to a console (5.3), and answers how many bytes it took: the first
+    /// ones. The chains on offer are filled then. It is refused for a bad slot, for a device that takes none, and while a service of the slot is paused.
     pub fn supply(&mut self, slot: u8, device: u8, bytes: &[u8]) -> Result<usize, Refusal>
         ensures call { IsToldCall {A = A} self.old slot (EventKind.Device device (DeviceEvent.Supply bytes.now))
             (Means took_response result) self.new }
@@ -138,8 +158,8 @@ impl<A: Allocator + Copy> Session<A> {
         took_frame(self.board.receive(slot, device, frame), frame)
     }
 
-    /// Takes away the frame that `sent` tells, and answers whether there was one. It is refused for a bad slot, for a device that
-    /// is no network card, and while a service of the slot is paused.
+    /// Takes away what `sent` tells, and answers whether anything waited. It is refused for a bad slot, for a device that is no
+    /// network card and no console, and while a service of the slot is paused.
     pub fn take_sent(&mut self, slot: u8, device: u8) -> Result<bool, Refusal>
         ensures call { IsToldCall {A = A} self.old slot (EventKind.Device device DeviceEvent.TakeSent)
             (Means (frame_response (sent_at slot device self.old.slots)) result) self.new }
@@ -163,8 +183,8 @@ impl<A: Allocator + Copy> Session<A> {
 }
 
 impl<A: Allocator> Session<A> {
-    /// The oldest frame that a network card's driver sent and the host hasn't taken, in two parts. There is none where no frame
-    /// waits, of a device that is no network card, and where there is no such slot or device.
+    /// What the driver of a network card or of a console sent and the host takes now, in two parts: the oldest frame, or all
+    /// output. There is none where nothing waits, of another device, and where there is no such slot or device.
     pub fn sent(&self, slot: u8, device: u8) -> Option<(&[u8], &[u8])>
         ensures { option_map (λ parts. parts.0.now ++ parts.1.now) result ≡ sent_at slot device self.now.slots }
     {
@@ -186,9 +206,9 @@ impl<A: Allocator> Session<A> {
     }
 }
 
-// How many bytes a frame in two parts has.
+// How many bytes two parts have.
 fn len_of(parts: Option<(&[u8], &[u8])>) -> Option<usize>
-    ensures { result ≡ option_map (λ frame. length frame)
+    ensures { result ≡ option_map (λ bytes. length bytes)
         (option_map (λ parts. parts.0.now ++ parts.1.now) parts.entry) }
 {
     let (front, back) = parts?;
