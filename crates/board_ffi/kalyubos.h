@@ -176,9 +176,10 @@ struct kalyubos_region {
 /* The kinds of further devices, by the standard's device IDs (5). */
 enum {
     KALYUBOS_NO_DEVICE = 0,
-    KALYUBOS_NETWORK = 1, /* a network card (5.1) */
-    KALYUBOS_DISK = 2,    /* a disk that the host serves (5.2) */
-    KALYUBOS_ENTROPY = 4  /* an entropy device (5.4) */
+    KALYUBOS_NETWORK = 1,        /* a network card (5.1) */
+    KALYUBOS_DISK = 2,           /* a disk that the host serves (5.2) */
+    KALYUBOS_CONSOLE_DEVICE = 3, /* a console (5.3) */
+    KALYUBOS_ENTROPY = 4         /* an entropy device (5.4) */
 };
 
 /* How many further devices a slot has at most. */
@@ -189,7 +190,7 @@ enum { KALYUBOS_TAGS = 64 };
 
 /* A further device. Of a field that is for another kind of device nothing is read. */
 struct kalyubos_device {
-    uint32_t kind;        /* KALYUBOS_NO_DEVICE, _NETWORK, _DISK or _ENTROPY */
+    uint32_t kind;        /* KALYUBOS_NO_DEVICE, _NETWORK, _DISK, _CONSOLE_DEVICE or _ENTROPY */
     uint16_t mtu;         /* of a network card: how many bytes a frame has behind its header of Ethernet at most, 68 or
                              more */
     uint8_t mac[6];       /* and its address */
@@ -197,6 +198,8 @@ struct kalyubos_device {
     uint64_t sectors;     /* how many sectors it has, fewer than 2^55 */
     uint8_t identity[20]; /* what it answers to GET_ID, as of a slot's disk */
     bool read_only;       /* and whether it refuses writes */
+    uint16_t cols;        /* of a console: its columns */
+    uint16_t rows;        /* and its rows */
 };
 
 /*
@@ -500,16 +503,17 @@ uint32_t kalyubos_take_output(struct kalyubos *board, uint8_t slot, uint8_t *int
 
 /*
  * The following calls are for further devices: `window` is KALYUBOS_DEVICE or above. BAD_WINDOW where it isn't, where the
- * slot has no such device, and where that takes no such thing: an entropy device is supplied, and a network card has
- * frames and a link. Each call but kalyubos_device_pending is BUSY while a service of the slot is paused.
+ * slot has no such device, and where that takes no such thing: an entropy device is supplied, a network card has frames and
+ * a link, and a console input, output and a size. Each call but kalyubos_device_pending is BUSY while a service of the slot is
+ * paused.
  */
 
 /* What waits for a further device's driver and for its host. */
 struct kalyubos_device_pending {
     uint32_t interrupt; /* InterruptStatus of its window; its line is high while this isn't 0 */
-    bool starved;       /* whether its driver waits for the host: a chain is on offer for bytes or for a frame */
+    bool starved;       /* whether its driver waits for the host: a chain is on offer for bytes, a frame or input */
     uint8_t padding[3]; /* zeros */
-    uint64_t frame;     /* how many bytes the oldest frame has that its driver sent; 0 where none waits */
+    uint64_t frame;     /* how many bytes kalyubos_take_frame moves out; 0 where nothing waits */
     uint64_t tags;      /* of a disk: what is in flight, as kalyubos_in_flight has it */
 };
 
@@ -521,8 +525,8 @@ uint32_t kalyubos_device_pending(const struct kalyubos *board, uint8_t slot, uin
                                  struct kalyubos_device_pending *pending);
 
 /*
- * Supplies an entropy device with random bytes; `taken` is how many it took, the first ones: it keeps 4096 until its
- * driver takes them.
+ * Supplies an entropy device with random bytes, or types to a console; `taken` is how many bytes it took, the first ones: it
+ * keeps 4096 until its driver takes them.
  */
 uint32_t kalyubos_supply(struct kalyubos *board, uint8_t slot, uint8_t window, const uint8_t *bytes, size_t bytes_len,
                          size_t *taken);
@@ -542,12 +546,19 @@ uint32_t kalyubos_receive(struct kalyubos *board, uint8_t slot, uint8_t window, 
  *
  * Take frames after each kalyubos_write to the window, until there is none. The card keeps as many as the other way;
  * where there is no room the driver's next frame waits for such a call.
+ *
+ * From a console it moves out all output that waits, in place of a frame: `into` of 65536 bytes takes all that there may be.
+ * Call it once after each kalyubos_write to the window. What finds no room waits with its driver for such a call, but the byte
+ * of an emergency write (5.3.4) is lost then.
  */
 uint32_t kalyubos_take_frame(struct kalyubos *board, uint8_t slot, uint8_t window, uint8_t *into, size_t into_len,
                              size_t *len);
 
 /* Sets whether a network card's link is up, and tells its driver. It is up when the board is made. */
 uint32_t kalyubos_set_link(struct kalyubos *board, uint8_t slot, uint8_t window, bool up);
+
+/* Gives a further console another size, of which its driver is told. */
+uint32_t kalyubos_resize_device(struct kalyubos *board, uint8_t slot, uint8_t window, uint16_t cols, uint16_t rows);
 
 /* InterruptStatus of the block window and the console window. A window's line is high while its word isn't 0. */
 uint32_t kalyubos_interrupts(const struct kalyubos *board, uint8_t slot, uint8_t *block, uint8_t *console);

@@ -12,7 +12,7 @@
 enum { MEMORY_LEN = 0x10000, SECTORS = 2, MTU = 68, POOL = 4096, FRAMES = 64, ROOM = 65536, UNTOLD = 0x77 };
 enum { QUEUE_READY = 0x044, NOTIFY = 0x050, STATUS = 0x070, DEVICE_ID = 0x008, NEXT = 1, WRITE = 2 };
 /* the windows of guest 0's devices, and of one that it doesn't have */
-enum { ENTROPY = KALYUBOS_DEVICE, CARD, LARGE_CARD, DISK, NO_WINDOW };
+enum { ENTROPY = KALYUBOS_DEVICE, CARD, LARGE_CARD, DISK, CONSOLE, NO_WINDOW };
 static const uint64_t MEMORY = 0x80000000;
 
 static struct kalyubos board;
@@ -94,6 +94,7 @@ static void all_answer(uint8_t slot, uint8_t window, uint32_t answer, uint32_t p
     need(receive(slot, window, 1, &taken) == answer, "receive", window);
     need(take(slot, window, into, sizeof into, &count) == answer, "take_frame", window);
     need(kalyubos_set_link(&board, slot, window, false) == answer, "set_link", window);
+    need(kalyubos_resize_device(&board, slot, window, 80, 25) == answer, "resize_device", window);
     need(wait(slot, window, &pending) == pending_answer, "device_pending", window);
 }
 
@@ -170,7 +171,8 @@ static void check_no_board(void)
 
 static void check_windows(void)
 {
-    static const uint32_t ids[] = { 2, 3, 4, 1, 1, 2 }; /* (5): a disk, a console, an entropy device, two network cards, a disk */
+    /* (5): a disk, a console, an entropy device, two network cards, a disk, a console */
+    static const uint32_t ids[] = { 2, 3, 4, 1, 1, 2, 3 };
     uint32_t value;
     for (unsigned window = 0; window < 256; window++) {
         uint32_t own = window < NO_WINDOW ? KALYUBOS_DONE : KALYUBOS_BAD_WINDOW;
@@ -213,6 +215,10 @@ static void check_kinds(void)
     need(receive(0, ENTROPY, 64, &taken) == KALYUBOS_BAD_WINDOW, "a frame for an entropy device", taken);
     need(take(0, ENTROPY, into, sizeof into, &count) == KALYUBOS_BAD_WINDOW, "a frame of an entropy device", count);
     need(kalyubos_set_link(&board, 0, ENTROPY, true) == KALYUBOS_BAD_WINDOW, "the link of an entropy device", 0);
+    need(receive(0, CONSOLE, 64, &taken) == KALYUBOS_BAD_WINDOW, "a frame for a console", taken);
+    need(kalyubos_set_link(&board, 0, CONSOLE, true) == KALYUBOS_BAD_WINDOW, "the link of a console", 0);
+    for (uint8_t window = ENTROPY; window < DISK; window++)
+        need(kalyubos_resize_device(&board, 0, window, 80, 25) == KALYUBOS_BAD_WINDOW, "the size of no console", window);
     all_answer(0, DISK, KALYUBOS_BAD_WINDOW, KALYUBOS_DONE);
 }
 
@@ -308,6 +314,39 @@ static void check_full_card(void)
     need(take(0, LARGE_CARD, into, sizeof into, &len) == KALYUBOS_DONE && len == 0, "a fourth frame", len);
 }
 
+/* A console's size, and its input: 4096 bytes are pending at most. */
+static void check_console(void)
+{
+    uint32_t value = 0;
+    size_t count;
+    need(kalyubos_read(&board, 0, CONSOLE, 0x100, 4, &value) == KALYUBOS_DONE && value == (25 << 16 | 80), "a size", value);
+    need(kalyubos_resize_device(&board, 0, CONSOLE, 132, 43) == KALYUBOS_DONE, "another size", 0);
+    need(kalyubos_read(&board, 0, CONSOLE, 0x100, 4, &value) == KALYUBOS_DONE && value == (43 << 16 | 132), "the size then", value);
+    need(supply(0, CONSOLE, POOL - 1, &count) == KALYUBOS_DONE && count == POOL - 1, "input", count);
+    need(supply(0, CONSOLE, 2, &count) == KALYUBOS_DONE && count == 1, "input for which there is no room", count);
+}
+
+/* Its output leaves whole. A byte of an emergency write (5.3.4) that finds no room is lost, and a chain waits. */
+static void check_output(void)
+{
+    enum { EMERGENCY = 0x108 };
+    const struct descriptor chain = { MEMORY + DATA, ROOM / 2, 0, 0 };
+    static uint8_t into[ROOM + 1];
+    size_t count = 0;
+    struct kalyubos_device_pending pending;
+    need(take(0, CONSOLE, into, 0, &count) == KALYUBOS_DONE && count == 0, "output where none waits", count);
+    need(store(0, CONSOLE, EMERGENCY, 0x1241) == KALYUBOS_DONE, "an emergency write", 0);
+    need(take(0, CONSOLE, into, 0, &count) == KALYUBOS_SHORT_BUFFER && count == 1, "a short buffer", count);
+    need(take(0, CONSOLE, into, sizeof into, &count) == KALYUBOS_DONE && count == 1 && into[0] == 0x41, "its low byte", into[0]);
+    for (uint32_t i = 0; i <= ROOM; i++)
+        need(store(0, CONSOLE, EMERGENCY, i) == KALYUBOS_DONE, "an emergency write", i);
+    need(wait(0, CONSOLE, &pending) == KALYUBOS_DONE && pending.frame == ROOM, "what waits", pending.frame);
+    need(take(0, CONSOLE, into, sizeof into, &count) == KALYUBOS_DONE && count == ROOM && into[ROOM - 1] == 0xff, "all output", count);
+    need(offer(CONSOLE, 1, &chain, sizeof chain, 3) == KALYUBOS_DONE && used() == 2, "two chains are sent", used());
+    need(take(0, CONSOLE, into, sizeof into, &count) == KALYUBOS_DONE && count == ROOM && used() == 3, "both", count);
+    need(take(0, CONSOLE, into, sizeof into, &count) == KALYUBOS_DONE && count == ROOM / 2, "the third one", count);
+}
+
 /* ---- a disk at work */
 
 static const struct descriptor request[] = { { 0x80000000 + DATA, 16, NEXT, 1 }, { 0x80000000 + DATA + 0x200, 512, NEXT | WRITE, 2 },
@@ -380,7 +419,8 @@ int main(void)
     struct kalyubos_slot slots[2] = {
         { .size = sizeof *slots, .regions = { { MEMORY, MEMORY_LEN } }, .count = SECTORS, .outlet = 64,
           .devices = { { .kind = KALYUBOS_ENTROPY }, { .kind = KALYUBOS_NETWORK, .mtu = MTU },
-                       { .kind = KALYUBOS_NETWORK, .mtu = UINT16_MAX }, { .kind = KALYUBOS_DISK, .sectors = SECTORS } } },
+                       { .kind = KALYUBOS_NETWORK, .mtu = UINT16_MAX }, { .kind = KALYUBOS_DISK, .sectors = SECTORS },
+                       { .kind = KALYUBOS_CONSOLE_DEVICE, .cols = 80, .rows = 25 } } },
         { .size = sizeof *slots, .regions = { { MEMORY, MEMORY_LEN } }, .outlet = 64 },
     };
     struct kalyubos_config config = kalyubos_config(slots, 2);
@@ -398,9 +438,11 @@ int main(void)
     check_frames();
     check_short_buffer();
     check_full_card();
+    check_console();
+    check_output();
     check_disk_at_work();
     check_pause();
     need(kalyubos_destroy(&board) == KALYUBOS_DONE, "destroy", 0);
-    puts("further: 256 windows of a guest with four further devices and one with none; what finds room; a disk at work; a pause");
+    puts("further: 256 windows of a guest with five further devices and one with none; what finds room; a disk at work; a pause");
     return 0;
 }

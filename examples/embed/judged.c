@@ -8,7 +8,7 @@
 
 #include "shut_heap.h"
 
-enum { CONFIG = 72, SIZE = 480, PAGE = 0x1000, TOO_LARGE = (1 << 24) + 1, SECTORS = 4, IMAGE = SECTORS * 512 };
+enum { CONFIG = 72, SIZE = 528, PAGE = 0x1000, TOO_LARGE = (1 << 24) + 1, SECTORS = 4, IMAGE = SECTORS * 512 };
 enum { UNTOLD = 99 };
 
 _Static_assert(sizeof(struct kalyubos_config) == CONFIG, "a config of this version has 72 bytes");
@@ -178,7 +178,9 @@ static const struct {
     /* what is of another kind of device isn't read */
     { { { { .kind = KALYUBOS_ENTROPY, .sectors = UINT64_MAX, .depth = 65 } },
         { { .kind = KALYUBOS_NETWORK, .mtu = 68, .sectors = UINT64_MAX, .depth = 65 } } }, KALYUBOS_DONE, UNTOLD },
-    { { { ONLY_ENTROPY }, { ONLY_ENTROPY, { .kind = 3, .mtu = 1500 } } }, KALYUBOS_BAD_DEVICE, 1 },
+    { { { { .kind = KALYUBOS_CONSOLE_DEVICE, .mtu = 67, .sectors = UINT64_MAX, .depth = 65 } },
+        { { .kind = KALYUBOS_CONSOLE_DEVICE, .cols = UINT16_MAX, .rows = UINT16_MAX } } }, KALYUBOS_DONE, UNTOLD },
+    { { { ONLY_ENTROPY }, { ONLY_ENTROPY, { .kind = 6, .mtu = 1500 } } }, KALYUBOS_BAD_DEVICE, 1 },
     { { { { .kind = 5, .mtu = 1500 } }, { { .kind = 5 } } }, KALYUBOS_BAD_DEVICE, 0 },
     { { { { .kind = 0x101, .mtu = 1500 } }, { ONLY_ENTROPY } }, KALYUBOS_BAD_DEVICE, 0 },
     { { { { .kind = UINT32_MAX } }, { ONLY_ENTROPY } }, KALYUBOS_BAD_DEVICE, 0 },

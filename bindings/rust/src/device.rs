@@ -1,4 +1,4 @@
-//! A slot's further devices: entropy devices, network cards and disks.
+//! A slot's further devices: entropy devices, network cards, disks and consoles.
 
 use crate::board::{Board, Window};
 use crate::error::Error;
@@ -30,6 +30,13 @@ pub enum Device {
         /// How many operations may be in flight, 1 to 64; 0 is 1.
         depth: u32,
     },
+    /// A console of this size in characters, beside the slot's own.
+    Console {
+        /// Its columns.
+        cols: u16,
+        /// Its rows.
+        rows: u16,
+    },
 }
 
 impl Device {
@@ -59,6 +66,12 @@ impl Device {
                 read_only,
                 ..ffi::Device::default()
             },
+            Device::Console { cols, rows } => ffi::Device {
+                kind: 3,
+                cols,
+                rows,
+                ..ffi::Device::default()
+            },
         }
     }
 }
@@ -69,9 +82,9 @@ impl Device {
 pub struct DevicePending {
     /// InterruptStatus of its window. The window's line is high while this isn't 0.
     pub interrupt: u32,
-    /// Whether its driver waits for the host: a chain is on offer for bytes or for a frame.
+    /// Whether its driver waits for the host: a chain is on offer for bytes, a frame or input.
     pub starved: bool,
-    /// How many bytes the oldest frame has that its driver sent, where one waits.
+    /// How many bytes [`take_frame`](Board::take_frame) moves out, where anything waits.
     pub frame: Option<usize>,
     /// What is in flight of a disk; of another device nothing is.
     pub tags: Tags,
@@ -100,8 +113,8 @@ impl Board {
         })
     }
 
-    /// Supplies an entropy device with random bytes, and tells how many it took, the first ones: it keeps 4096 until its
-    /// driver takes them.
+    /// Supplies an entropy device with random bytes, or types to a console, and tells how many bytes it took, the first ones: it
+    /// keeps 4096 until its driver takes them.
     ///
     /// ```
     /// # use kalyubos::{Board, Config, Device, Error, Slot};
@@ -152,6 +165,10 @@ impl Board {
     /// Take frames after each [`write`](Board::write) to the window, until there is none: the card keeps as many as the other
     /// way, and the driver's next frame waits for such a call.
     ///
+    /// From a console it moves out all output that waits, in place of a frame: a buffer of 65536 bytes takes all that there may be.
+    /// Call it once after each write to the window. What finds no room waits with its driver for such a call, but the byte of an
+    /// emergency write is lost then.
+    ///
     /// ```
     /// # use kalyubos::{Board, Config, Device, Slot};
     /// let card = Device::Network { mac: [2, 0, 0, 0, 0, 1], mtu: 1500 };
@@ -185,6 +202,19 @@ impl Board {
     pub fn set_link(&mut self, slot: u8, device: u8, up: bool) -> Result<(), Error> {
         Error::check(unsafe {
             ffi::kalyubos_set_link(self.handle_mut(), slot, window_of(device), up)
+        })
+    }
+
+    /// Gives a further console another size, and tells its driver.
+    pub fn resize_device(
+        &mut self,
+        slot: u8,
+        device: u8,
+        cols: u16,
+        rows: u16,
+    ) -> Result<(), Error> {
+        Error::check(unsafe {
+            ffi::kalyubos_resize_device(self.handle_mut(), slot, window_of(device), cols, rows)
         })
     }
 }

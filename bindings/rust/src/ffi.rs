@@ -52,6 +52,8 @@ pub struct Device {
     pub sectors: u64,
     pub identity: [u8; 20],
     pub read_only: bool,
+    pub cols: u16,
+    pub rows: u16,
 }
 
 /// One guest.
@@ -277,6 +279,13 @@ unsafe extern "C" {
         len: *mut usize,
     ) -> u32;
     pub fn kalyubos_set_link(board: *mut Handle, slot: u8, window: u8, up: bool) -> u32;
+    pub fn kalyubos_resize_device(
+        board: *mut Handle,
+        slot: u8,
+        window: u8,
+        cols: u16,
+        rows: u16,
+    ) -> u32;
     pub fn kalyubos_interrupts(
         board: *const Handle,
         slot: u8,

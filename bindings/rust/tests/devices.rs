@@ -1,4 +1,4 @@
-//! Further devices: an entropy device, a network card and a disk, from their making to what their drivers get.
+//! Further devices: an entropy device, a network card, a disk and a console, from their making to what their drivers get.
 
 use kalyubos::{
     Board, Config, CreateError, Device, DevicePending, Error, Kind, Outcome, Run, Slot, Tags,
@@ -267,4 +267,34 @@ fn frames_go_both_ways() {
     assert_eq!(board.set_link(0, 1, false), Ok(()));
     assert_eq!(board.device_pending(0, 1).unwrap().interrupt, 3);
     assert_eq!(board.set_link(0, 0, false), Err(Error::BadDevice));
+}
+
+#[test]
+fn a_console_has_input_output_and_a_size() {
+    let console = Device::Console { cols: 80, rows: 25 };
+    let mut board = board_of(&[Device::Entropy, console]);
+    let window = Window::Device(1);
+    let size = |board: &Board| board.read(0, window, 0x100, 4);
+    assert_eq!(size(&board), Ok(25 << 16 | 80));
+    assert_eq!(board.resize_device(0, 1, 132, 43), Ok(()));
+    assert_eq!(size(&board), Ok(43 << 16 | 132));
+    assert_eq!(board.resize_device(0, 0, 132, 43), Err(Error::BadDevice));
+
+    offer(&mut board, 1, 0, 8, 2);
+    assert!(board.device_pending(0, 1).unwrap().starved);
+    assert_eq!(board.supply(0, 1, b"ls\n"), Ok(3));
+    assert_eq!(used(&mut board), (1, 3));
+    assert_eq!(&board.memory(0, MEMORY + 0x400).unwrap()[..4], b"ls\n\0");
+
+    board.memory(0, MEMORY + 0x400).unwrap()[..64].fill(b'x');
+    offer(&mut board, 1, 1, 64, 0);
+    let mut into = [0; 100];
+    assert_eq!(board.device_pending(0, 1).unwrap().frame, Some(64));
+    assert_eq!(
+        board.take_frame(0, 1, &mut into[..63]),
+        Err(Error::ShortBuffer)
+    );
+    assert_eq!(board.take_frame(0, 1, &mut into), Ok(Some(64)));
+    assert_eq!((into[0], into[63], into[64]), (b'x', b'x', 0));
+    assert_eq!(board.take_frame(0, 1, &mut into), Ok(None));
 }

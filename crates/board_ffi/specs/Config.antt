@@ -35,13 +35,14 @@ backing_of hosted depth = if hosted then Backing.Host (depth_of depth) else Back
 abbrev pub disk_of : Device → DeviceSpec
 disk_of device = DeviceSpec.Block device.sectors device.read_only device.identity (depth_of device.depth)
 
--- A further device, if it is one, by its type (VIRTIO 1.2, 5): 1 is a network card, 2 a disk, and 4 an entropy device. One
--- of a type that isn't known is a card whose MTU no slot takes.
+-- A further device, if it is one, by its type (VIRTIO 1.2, 5): 1 is a network card, 2 a disk, 3 a console, and 4 an entropy
+-- device. One of a type that isn't known is a card whose MTU no slot takes.
 abbrev pub device_of : Device → Option DeviceSpec
 device_of device =
     if device.kind == 0 then None
     else if device.kind == 4 then Some DeviceSpec.Entropy
     else if device.kind == 2 then Some (disk_of device)
+    else if device.kind == 3 then Some (DeviceSpec.Console device.cols device.rows)
     else Some (DeviceSpec.Network device.mac (if device.kind == 1 then device.mtu else 0))
 
 -- the guest of a slot that C describes
@@ -62,7 +63,7 @@ guest_of slot = record {
 
 -- how many bytes a slot and a config have that this version describes
 abbrev pub slot_size : ℕ
-slot_size = 480
+slot_size = 528
 
 abbrev pub config_size : ℕ
 config_size = 72

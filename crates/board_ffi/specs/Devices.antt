@@ -15,8 +15,7 @@ use Rattle.board_ffi.specs.Events.{Takes}
 abbrev pub count_of : List ℕ → Bool → ℕ
 count_of frame taken = if taken then length frame else 0
 
--- the oldest frame that the driver of a slot's network card sent and the host hasn't taken: no bytes where none
--- waits
+-- what the driver of a slot's device sent and the host takes now: no bytes where nothing waits
 abbrev pub frame_at : ℕ → ℕ → SessionState → List ℕ
 frame_at slot device session = unwrap_or (sent_at slot device session.slots) []
 
@@ -25,23 +24,23 @@ abbrev pub frame_now : ℕ → ℕ → SessionState → List ℕ
 frame_now slot device session =
     if is_none (paused_at session.paused slot) then frame_at slot device session else []
 
--- a frame of so many bytes stands at the front of the room
+-- so many bytes stand at the front of the room
 pub record IsCopied (frame room into : List ℕ) (len : ℕ) : Type 0 where
   pub len_is : len ≡ length frame
   pub copied : into ≡ frame ++ drop len room
 
--- a frame of so many bytes is longer than the room, which stays
+-- so many bytes are more than the room, which stays
 pub record IsLonger (frame room into : List ℕ) (len : ℕ) : Type 0 where
   pub len_is : len ≡ length frame
   pub longer : length room < len
   pub kept : into ≡ room
 
--- The oldest frame is taken, stands at the front of the room, and this is its length.
+-- What was sent is taken, stands at the front of the room, and this is its length.
 pub record TakesFrame (slot device : ℕ) (room into : List ℕ) (len code : ℕ) (old new : SessionState) : Type 0 where
   pub takes : Takes slot (Device device TakeSent) code (Bytes (frame_at slot device old)) old new
   pub moved : code ≡ 0 → IsCopied (frame_at slot device old) room into len
 
--- The oldest frame of a slot of which nothing is paused is longer than the room, and this is its length. Nothing changes.
+-- What was sent is longer than the room, and this is its length. Nothing of the slot is paused, and nothing changes.
 pub record IsTooShort (slot device room len : ℕ) (old new : SessionState) : Type 0 where
   pub idle : IsIdle slot old
   pub len_is : len ≡ length (frame_at slot device old)

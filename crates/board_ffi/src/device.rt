@@ -12,6 +12,8 @@ const NETWORK: u32 = 1;
 
 const DISK: u32 = 2;
 
+const CONSOLE_DEVICE: u32 = 3;
+
 const ENTROPY: u32 = 4;
 
 /// A further device, as C describes it.
@@ -32,6 +34,10 @@ pub struct Device {
     pub identity: [u8; 20],
     /// Whether it refuses writes.
     pub read_only: bool,
+    /// The columns of a console.
+    pub cols: u16,
+    /// And its rows.
+    pub rows: u16,
 }
 
 impl Device {
@@ -44,6 +50,10 @@ impl Device {
             NO_DEVICE => None,
             ENTROPY => Some(DeviceSpec::Entropy),
             DISK => Some(self.disk()),
+            CONSOLE_DEVICE => Some(DeviceSpec::Console {
+                cols: self.cols,
+                rows: self.rows,
+            }),
             NETWORK => Some(DeviceSpec::Network { mac, mtu: self.mtu }),
             _ => Some(DeviceSpec::Network { mac, mtu: 0 }),
         }

@@ -20,13 +20,14 @@ pub struct DevicePending {
     pub starved: bool,
     /// Zeros.
     pub padding: [u8; 3],
-    /// How many bytes the oldest frame has that waits for the host, and 0 where none waits.
+    /// How many bytes the host takes now of what the driver sent: a card's oldest frame, or all output of a console. It is 0
+    /// where nothing waits.
     pub frame: u64,
     /// What is in flight of a disk: bit n is set where tag n is. It is 0 of another device.
     pub tags: u64,
 }
 
-/// Supplies an entropy device with bytes, and tells how many it took, the first ones.
+/// Supplies an entropy device with bytes, or types to a console, and tells how many bytes it took, the first ones.
 #[unsafe(no_mangle)]
 pub extern "C" fn kalyubos_supply(
     board: &mut Handle,
@@ -65,8 +66,8 @@ pub extern "C" fn kalyubos_receive(
     devices::receive(session_of!(board), slot, device, frame, taken)
 }
 
-/// Moves out the oldest frame that a network card's driver sent, whole, and tells how many bytes it has: none where none
-/// waits. Where it finds no room it stays, and its length is told.
+/// Moves out what a device's driver sent, whole: the oldest frame of a network card, or all output of a console. Tells how many bytes
+/// it has: none where nothing waits. Where it finds no room it stays, and its length is told.
 #[unsafe(no_mangle)]
 pub extern "C" fn kalyubos_take_frame(
     board: &mut Handle,
@@ -98,6 +99,24 @@ pub extern "C" fn kalyubos_set_link(board: &mut Handle, slot: u8, window: u8, up
         return BAD_WINDOW;
     };
     devices::set_link(session_of!(board), slot, device, up)
+}
+
+/// Changes the size of a further console, of which its driver is told.
+#[unsafe(no_mangle)]
+pub extern "C" fn kalyubos_resize_device(
+    board: &mut Handle,
+    slot: u8,
+    window: u8,
+    cols: u16,
+    rows: u16,
+) -> u32
+    ensures step { AtDevice window board.old board.new result (λ device.
+        Takes slot (EventKind.Device device (DeviceEvent.Resize cols rows)) result Reply.Done) }
+{
+    let Some(device) = device_numbered(window) else {
+        return BAD_WINDOW;
+    };
+    devices::resize(session_of!(board), slot, device, cols, rows)
 }
 
 /// Tells what waits for a further device's driver and for its host.

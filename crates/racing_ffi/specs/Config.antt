@@ -59,7 +59,7 @@ lent_words loans = map (λ loan. loan.items) loans
 
 -- how many bytes a slot and a config have that this version describes
 abbrev pub slot_size : ℕ
-slot_size = 480
+slot_size = 528
 
 abbrev pub config_size : ℕ
 config_size = 48

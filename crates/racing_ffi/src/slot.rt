@@ -29,6 +29,8 @@ pub struct Device {
     pub sectors: u64,
     pub identity: [u8; 20],
     pub read_only: bool,
+    pub cols: u16,
+    pub rows: u16,
 }
 
 /// A slot, as C describes it.

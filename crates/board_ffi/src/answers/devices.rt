@@ -49,7 +49,7 @@ pub(crate) fn write(
     answer
 }
 
-/// Supplies an entropy device with bytes, and tells how many it took.
+/// Supplies an entropy device with bytes, or types to a console, and tells how many bytes it took.
 pub(crate) fn supply(
     session: &mut Session,
     slot: u8,
@@ -79,7 +79,8 @@ pub(crate) fn receive(
     told(session.receive(slot, device, frame), taken)
 }
 
-/// Moves out the oldest frame that a network card's driver sent, where it finds room, and tells how many bytes it has.
+/// Moves out what a device's driver sent, the oldest frame of a card or all output of a console, where it finds room, and tells how
+/// many bytes it has.
 pub(crate) fn take_frame(
     session: &mut Session,
     slot: u8,
@@ -101,7 +102,7 @@ pub(crate) fn take_frame(
     }
 }
 
-// Copies the oldest frame to the front of a buffer, if there is one and no service of the slot is paused, and answers how many
+// Copies what was sent to the front of a buffer, if anything waits and no service of the slot is paused, and answers how many
 // bytes it has: as an error where it finds no room.
 fn copy_sent(session: &Session, slot: u8, device: u8, into: &mut [u8]) -> Result<usize, usize>
     ensures copied { IfOk result (λ count. IsCopied (frame_now slot device session.now) into.old into.new count) }
@@ -116,7 +117,7 @@ fn copy_sent(session: &Session, slot: u8, device: u8, into: &mut [u8]) -> Result
     }
 }
 
-// Copies a frame in two parts to the front of a buffer, where it finds room.
+// Copies two parts to the front of a buffer, where they find room.
 fn copy(front: &[u8], back: &[u8], into: &mut [u8]) -> Result<usize, usize>
     ensures copied { IfOk result (λ count. IsCopied (front.now ++ back.now) into.old into.new count) }
     ensures short { IfErr result (λ count. IsLonger (front.now ++ back.now) into.old into.new count) }
@@ -130,7 +131,7 @@ fn copy(front: &[u8], back: &[u8], into: &mut [u8]) -> Result<usize, usize>
     Ok(count)
 }
 
-// The number of a call that takes a frame away, and how many bytes it has where it is done.
+// The number of a call that takes away what was sent, and how many bytes it has where it is done.
 fn told_len(answer: Result<bool, Refusal>, count: usize, len: &mut usize) -> u32
     ensures number { result ≡ code_by answer }
     ensures told { result ≡ 0 → len.new ≡ count }
@@ -150,6 +151,13 @@ pub(crate) fn set_link(session: &mut Session, slot: u8, device: u8, up: bool) ->
     ensures { Takes slot (EventKind.Device device (DeviceEvent.SetLink up)) result Reply.Done session.old session.new }
 {
     of_done(session.set_link(slot, device, up))
+}
+
+/// Changes a console's size.
+pub(crate) fn resize(session: &mut Session, slot: u8, device: u8, cols: u16, rows: u16) -> u32
+    ensures { Takes slot (EventKind.Device device (DeviceEvent.Resize cols rows)) result Reply.Done session.old session.new }
+{
+    of_done(session.resize_device(slot, device, cols, rows))
 }
 
 /// Tells what waits for a further device's driver and for its host.
