@@ -29,6 +29,7 @@ LINES = {
     "frame": [8, 8, "bytes"],
     "take": [8, 8],
     "link": [8, 8, "link"],
+    "dsz": [8, 8, 16, 16],
     "dio": [8, 8, 8, "verdict"],
     "ddrop": [8, 8],
     "dhold": [8, 8],
@@ -47,7 +48,8 @@ OF_DISK = [64, "mode", "identity", 8]
 
 # What stands behind them in all but version 1, and the words that an extended trace has alone.
 ADDED = {"slot": ["identity"]}
-EXTENDED_WORDS = ["st", "io", "drop", "hold", "release", "plug", "dr", "dw", "supply", "frame", "take", "link", "dio", "ddrop", "dhold", "drelease"]
+EXTENDED_WORDS = ["st", "io", "drop", "hold", "release", "plug", "dr", "dw", "supply", "frame", "take", "link", "dsz", "dio", "ddrop", "dhold",
+                  "drelease"]
 
 CHOICES = {"win": ["b", "c"], "wid": ["1", "2", "4"], "mode": ["rw", "ro"], "verdict": ["done", "failed"], "link": ["up", "down"]}
 
@@ -107,8 +109,9 @@ def fault_of_field(text, kind, width):
         is_hosted = who + mark == "host:" and not fault_of_field(depth, 8, None)
         return None if text == "image" or is_hosted else "Choice"
     if kind == "kind":
-        card = re.fullmatch("network:[0-9a-f]{12}:(.*)", text)
-        return None if text in ("entropy", "disk") or card and not fault_of_field(card[1], 16, None) else "Choice"
+        numbers = re.fullmatch("network:[0-9a-f]{12}:([^:]*)|console:([^:]*):([^:]*)", text)
+        is_kind = numbers and not any(fault_of_field(number, 16, None) for number in numbers.groups() if number is not None)
+        return None if text in ("entropy", "disk") or is_kind else "Choice"
     if kind == "bytes":
         return None if text == "-" or re.fullmatch("([0-9a-f]{2})+", text) else "Bytes"
     if kind == "identity":

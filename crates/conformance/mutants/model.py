@@ -1137,6 +1137,51 @@ class Disk(HostedSlot, Further):
         return self.request(chain)
 
 
+class Console(Further):
+    """A further console (5.3), and the output that waits for the host. Its window is also called as a slot's is."""
+
+    def __init__(self, slot, cols, rows):
+        super().__init__(slot, 3, 2, ["size", "emerg_write"])
+        self.windows["c"] = self.window
+        self.cols, self.rows, self.pending, self.output = cols, rows, b"", b""
+
+    def configuration(self, window):
+        return super().configuration("c")
+
+    def put(self, content):
+        """Whether there is room for it behind the output that waits."""
+        if len(self.output) + len(content) > 65536:
+            return False
+        self.output += content
+        return True
+
+    def write(self, window, offset, width, value):
+        """An emergency byte without room is lost."""
+        self.put(super().write("c", offset, width, value))
+        return b""
+
+    def supply(self, content):
+        return self.input(content)
+
+    def take(self):
+        """All output that waits."""
+        if not self.output:
+            return b""
+        taken, self.output = self.output, b""
+        self.notify("further", 1)
+        return taken
+
+    def wants(self, index):
+        return index == 1 or self.pending != b""
+
+    def use(self, index, chain):
+        return self.transmit(chain) if index == 1 else self.receive(chain)
+
+    def transmit(self, chain):
+        """The bytes wait for the host; none where there is no room for all."""
+        return (0, False) if self.put(chain.front(65537)) else None
+
+
 class BadBoard(Exception):
     """A board that is refused, by the fault's name."""
 
@@ -1345,9 +1390,21 @@ def plugged(slot, number, kind, *disk):
     if disk:
         slot.devices.append(disk_of(slot, *disk))
         return "done"
-    _, *card = kind.split(":")
-    slot.devices.append(Card(slot, bytes.fromhex(card[0]), int(card[1], 16)) if card else Entropy(slot))
+    name, *own = kind.split(":")
+    slot.devices.append(KINDS[name](slot, *own))
     return "done"
+
+
+def card_of(slot, address, mtu):
+    return Card(slot, bytes.fromhex(address), int(mtu, 16))
+
+
+def console_of(slot, cols, rows):
+    return Console(slot, int(cols, 16), int(rows, 16))
+
+
+# The further devices but disks, by the name of their kind.
+KINDS = {"entropy": Entropy, "network": card_of, "console": console_of}
 
 
 def disk_of(slot, sectors, mode, identity, depth):
@@ -1365,7 +1422,7 @@ def device_written(slot, number, *fields):
 
 
 def supplied(slot, number, content):
-    return f"took:{device_of(slot, number, Entropy).supply(bytes_of(content)):x}"
+    return f"took:{device_of(slot, number, (Entropy, Console)).supply(bytes_of(content)):x}"
 
 
 def frame_handed(slot, number, content):
@@ -1373,11 +1430,16 @@ def frame_handed(slot, number, content):
 
 
 def frame_taken(slot, number):
-    return f"b:{spelled(device_of(slot, number, Card).take())}"
+    return f"b:{spelled(device_of(slot, number, (Card, Console)).take())}"
 
 
 def link_set(slot, number, link):
     device_of(slot, number, Card).set_link(link == "up")
+    return "done"
+
+
+def console_resized(slot, number, cols, rows):
+    device_of(slot, number, Console).resize(int(cols, 16), int(rows, 16))
     return "done"
 
 
@@ -1409,7 +1471,7 @@ def further_completed(disk, tag, verdict):
 REPLIES = {"r": read, "w": write, "mr": memory_read, "mw": memory_write, "in": typed, "sz": resized, "st": restored,
            "io": completed, "drop": dropped, "hold": held, "release": released, "plug": of_device(plugged),
            "dr": of_device(device_read), "dw": of_device(device_written), "supply": of_device(supplied),
-           "frame": of_device(frame_handed), "take": of_device(frame_taken), "link": of_device(link_set),
+           "frame": of_device(frame_handed), "take": of_device(frame_taken), "link": of_device(link_set), "dsz": of_device(console_resized),
            "dio": of_disk(further_completed), "ddrop": of_disk(Disk.drop), "dhold": of_disk(Disk.hold),
            "drelease": of_disk(Disk.release)}
 

@@ -48,8 +48,8 @@ def bit_name(window, bit):
 EXTENDED = "kalyubos 1\n"
 
 # Every name that a scenario's features may have.
-BESIDE_BITS = {"guests", "extended", "hosted", "depth", "held", "devices", "disks", "ro", "input", "resize", "size", "restore", "vendor",
-               "offer", "fails", "calls"}
+BESIDE_BITS = {"guests", "extended", "hosted", "depth", "held", "devices", "disks", "consoles", "ro", "input", "resize", "size", "restore",
+               "vendor", "offer", "fails", "calls"}
 NAMED = BESIDE_BITS | {feature for fields in FIELDS.values() for _, _, feature in fields} \
     | {bit_name(window, bit) for window in WINDOWS for bit in range(64)}
 
@@ -126,10 +126,13 @@ class Event:
         return f"has a frame of {counted(bytes_in(data))} handed to its device {device}"
 
     def say_take(self, device):
-        return f"has a frame taken from its device {device}"
+        return f"has a frame or output taken from its device {device}"
 
     def say_link(self, device, link):
         return f"has the link of its device {device} {link}"
+
+    def say_dsz(self, device, columns, rows):
+        return f"has its device {device} resized to {int(columns, 16)} by {int(rows, 16)}"
 
     def say_dio(self, device, tag, verdict):
         return f"has the operation of tag {tag} of its device {device} {verdict}"
@@ -161,7 +164,8 @@ def place(window, offset):
 
 
 COUNTS = {"r": 5, "w": 6, "mr": 4, "mw": 4, "in": 3, "sz": 4, "st": 3, "io": 4, "drop": 2, "hold": 2, "release": 2,
-          "plug": 4, "dr": 5, "dw": 6, "supply": 4, "frame": 4, "take": 3, "link": 4, "dio": 5, "ddrop": 3, "dhold": 3, "drelease": 3}
+          "plug": 4, "dr": 5, "dw": 6, "supply": 4, "frame": 4, "take": 3, "link": 4, "dsz": 5, "dio": 5, "ddrop": 3,
+          "dhold": 3, "drelease": 3}
 # Of a plug of a disk.
 DISK_COUNT = 8
 
@@ -183,6 +187,11 @@ def plugs_disk(fields):
     return fields[0] == "plug" and fields[3:4] == ["disk"]
 
 
+def plugs_console(fields):
+    """Whether a line's fields are those of a plug of a console."""
+    return fields[0] == "plug" and "".join(fields[3:4]).startswith("console:")
+
+
 def slots_of(text):
     """The fields of each slot line."""
     return [line.split(" ")[1:] for line in text.split("\n") if line.startswith("slot ")]
@@ -202,7 +211,8 @@ def features_of(text, replies):
     answers of DeviceFeatures), and those whose configuration fields are touched. Others are no bits: `offer`, all
     offered features are read; `vendor`, VendorID is; `resize`, `input` and `restore`, the host does that; `hosted`, it
     serves a disk; `depth`, several operations of one may be in flight; `held`, what is in flight is dropped, or a slot is held or released; `devices`,
-    a slot has further devices; `disks`, one of these is a disk; `guests`, there are more than one; `ro`, a slot is read-only; `extended`, the trace is of no version that a plain one has.
+    a slot has further devices; `disks` and `consoles`, some of these are; `guests`, there are more than one; `ro`, a slot is read-only;
+    `extended`, the trace is of no version that a plain one has.
     """
     found = {"extended"} if text.startswith(EXTENDED) else set()
     slots = slots_of(text)
@@ -238,6 +248,8 @@ def features_in(event, reply, windows):
         return {"hosted", "held"}
     if event.word in ("dio", "ddrop", "dhold", "drelease") or plugs_disk(event.fields):
         return {"devices", "disks"}
+    if event.word == "dsz" or plugs_console(event.fields):
+        return {"devices", "consoles"}
     if event.word in ("plug", "dr", "dw", "supply", "frame", "take", "link"):
         return {"devices"}
     if event.word not in ("r", "w") or event.fields[2] not in WINDOWS:
