@@ -1,7 +1,7 @@
-"""Entropy devices, network cards and disks on rings of both kinds, with and without event indices, in tables or not.
+"""Entropy devices, network cards, consoles and disks on rings of both kinds, with and without event indices, in tables or not.
 
 What a chain gets is worked out here by the sections of the standard and the rules of docs/model.md: a pool is bytes, what waits in a
-card a list of frames, and a disk's request is used as its host says, or at once.
+card a list of frames, what waits in a console bytes each way, and a disk's request is used as its host says, or at once.
 """
 import itertools
 
@@ -13,11 +13,11 @@ from .follows import EXTENDED, Wide
 from .story import BASE, USED, Story, spelled
 
 TITLE = "Further devices"
-HOW = ("Chains of some shapes go round a small ring: of an entropy device, of both queues of a network card, and of a disk. Bytes and frames come "
+HOW = ("Chains of some shapes go round a small ring: of an entropy device, of both queues of a network card and of a console, and of a disk. Bytes and frames come "
        "before a chain and behind it, fewer, as many and more than it holds; what is sent is taken; requests are done, fail or ask nothing. "
        "The driver names an event 0 to 2 places away, or wants none.")
 COLUMNS = ("Device", "Ring")
-FOLDERS = {"further_rings": "Entropy devices, network cards and disks on rings of both kinds, with each feature of a ring on and off."}
+FOLDERS = {"further_rings": "Entropy devices, network cards, consoles and disks on rings of both kinds, with each feature of a ring on and off."}
 
 # The one further device, its rings' sizes, and how often a chain is offered.
 DEVICE, SIZES, TURNS = 0, {"split": 4, "packed": 5}, 30
@@ -42,6 +42,7 @@ def stories():
     for row in ROWS:
         yield entropy(row)
         yield card(row)
+        yield console(row)
         yield disk(row)
 
 
@@ -223,18 +224,23 @@ def entropy(row):
     ring, pool = Ring(story, row, 0), b""
     ring.queue.bring_up()
     for turn in range(TURNS):
-        shape = OF_ENTROPY[turn % 5]
-        room = sum(length for length, flags in shape if flags)
-        more = rising(0x20 + 7 * turn, max(1, (1, room, room + 2)[turn % 3]))
-        if turn % 2:
-            pool += supplied(story, more)
-        ring.offer(turn, shape)
-        if not pool:
-            ring.waits()
-            pool += supplied(story, more)
-        ring.is_used(pool[:room])
-        pool = pool[room:]
+        pool = filled(story, ring, pool, turn)
     return story
+
+
+def filled(story, ring, pool, turn):
+    """A chain is filled from a pool, which gets bytes before the chain or behind it; what is left."""
+    shape = OF_ENTROPY[turn % 5]
+    room = sum(length for length, flags in shape if flags)
+    more = rising(0x20 + 7 * turn, max(1, (1, room, room + 2)[turn % 3]))
+    if turn % 2:
+        pool += supplied(story, more)
+    ring.offer(turn, shape)
+    if not pool:
+        ring.waits()
+        pool += supplied(story, more)
+    ring.is_used(pool[:room])
+    return pool[room:]
 
 
 def supplied(story, content):
@@ -245,15 +251,21 @@ def supplied(story, content):
 def card(row):
     """Chains wait for frames, or frames for chains; what is sent is taken."""
     story, waiting = Plugged("a_network_card", row, "network:525400123456:5dc"), []
+    receive, transmit = both_rings(story, row)
+    for turn in range(TURNS):
+        received(story, receive, waiting, turn)
+        sent(story, transmit, turn)
+    return story
+
+
+def both_rings(story, row):
+    """Both queues of a device that is live."""
     receive, transmit = Ring(story, row, 0), Ring(story, row, 1)
     receive.queue.begin()
     receive.queue.make_ready()
     transmit.queue.make_ready()
     receive.queue.go()
-    for turn in range(TURNS):
-        received(story, receive, waiting, turn)
-        sent(story, transmit, turn)
-    return story
+    return receive, transmit
 
 
 def handed(story, frame):
@@ -293,6 +305,22 @@ def sent(story, ring, turn):
     story.tell_device("take", "", f"b:{spelled(frame)}")
     if frame:
         story.tell_device("take", "", "b:-")
+
+
+def console(row):
+    """Chains wait for what is typed, or that for chains; output of one, two and three chains is taken at once."""
+    story, pending, output = Plugged("a_console", row, "console:50:19"), b"", b""
+    receive, transmit = both_rings(story, row)
+    for turn in range(TURNS):
+        pending = filled(story, receive, pending, turn)
+        transmit.offer(turn, SENDING[turn % 5])
+        transmit.is_used(b"")
+        output += transmit.readable
+        if turn % 6 in (0, 2, 5):
+            story.tell_device("take", "", f"b:{spelled(output)}")
+            story.tell_device("take", "", "b:-")
+            output = b""
+    return story
 
 
 def disk(row):
