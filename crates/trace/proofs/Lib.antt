@@ -1,12 +1,14 @@
 pub mod Formats
 pub mod Disks
 pub mod Cutting
+pub mod Pairs
 pub mod RegionFields
 pub mod Signs
 pub mod Fronts
 pub mod Widths
 pub mod Identities
 pub mod Cards
+pub mod Consoles
 pub mod Entries
 pub mod Saying
 pub mod Taking

@@ -44,6 +44,7 @@ use Rattle.trace.proofs.Entries.{behind, cut_cache, cut_event, cut_slot, entered
 use Rattle.trace.proofs.Cards.{address_long}
 use Rattle.trace.proofs.Clean.{same_header}
 use Rattle.hexadecimal.proofs.Numbers.{same_fixed, same_num}
+use Rattle.trace.proofs.Pairs.{colon, same_pair}
 use Rattle.trace.proofs.RegionFields.{region_parts, regions_parts}
 use Rattle.trace.proofs.Signs.{lines_of-joined}
 use Rattle.trace.proofs.Sofar.{Fits, Sofar, clean, lines_left, next_is, unbroken}
@@ -271,6 +272,9 @@ same_spec (spec.Block s r xs d) (spec.Block t q ys f) ra rb e =
     let identity = same_bytes xs ys ra.each rb.each (same_at e 3) in
     let depth = same_num d f (same_at e 4) in
     cc
+same_spec (spec.Console c r) (spec.Console d s) ra rb e =
+    let both = same_pair 58 c r d s colon (ap (drop 8) (same_at e 0)) in
+    ap (λ (n : ℕ). spec.Console n r) both.0 ∙ ap (spec.Console d) both.1
 same_spec a b ra rb e = absurd (omega (arith, ap (λ (xs : List ℕ). get_or xs 0 0) (same_at e 0)))
 
 same_link : (a b : Bool) → link_state a ≡ link_state b → a ≡ b
@@ -309,6 +313,10 @@ same_done m n d f (device.SetLink a) (device.SetLink b) rv rw' fv fw e = (
   same_num m n (same_at e 1),
   (same_num d f (same_at e 2), ap device.SetLink (same_link a b (same_at e 3))),
 )
+same_done m n d f (device.Resize c r) (device.Resize p q) rv rw' fv fw e =
+    let cols = same_num c p (same_at e 3) in
+    let rows = same_num r q (same_at e 4) in
+    (same_num m n (same_at e 1), (same_num d f (same_at e 2), cc))
 same_done m n d f (device.Host (host.Complete t a)) (device.Host (host.Complete u b)) rv rw' fv fw e =
     let tag = same_num t u (same_at e 3) in
     let came = same_verdict a b (same_at e 4) in

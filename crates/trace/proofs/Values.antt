@@ -249,6 +249,7 @@ device_written vs h =
 pub kind_disk : (kind : DeviceSpec) → is_disk_kind (device_kind kind) ≡ is_disk kind
 kind_disk spec.Entropy = refl
 kind_disk (spec.Network mac mtu) = refl
+kind_disk (spec.Console cols rows) = refl
 kind_disk (spec.Block sectors read_only identity depth) = refl
 
 -- its values, of which those behind the kind are a disk's where the kind is one

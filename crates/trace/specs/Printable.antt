@@ -15,7 +15,7 @@ use Rattle.trace.specs.declared.format.Format.TheVariants.{Plain, Extended}
 use Rattle.trace.specs.declared.format.Version.TheVariants.{One}
 use Rattle.trace.specs.Text.{Content, word_for}
 use Rattle.trace.specs.Format.{identity_in_version_1}
-use Rattle.trace.specs.Words.{DiskInRange, IsWidth, IsWordOf, RegionInRange, SpecInRange}
+use Rattle.trace.specs.Words.{DiskInRange, IsWidth, IsWordOf, RegionInRange, SizeInRange, SpecInRange}
 
 -- an access to a register that has a spelling: its offset has three digits, and its width is 1, 2 or 4
 pub record IsAccess (offset width : ℕ) : Type 0 where
@@ -91,10 +91,6 @@ pub record BytesInRange (addr : ℕ) (bs : List ℕ) : Type 0 where
 pub record EachInRange (bs : List ℕ) : Type 0 where
   pub each : All (λ b. b < 2 ^ 8) bs
 
-pub record SizeInRange (cols rows : ℕ) : Type 0 where
-  pub across : cols < 2 ^ 16
-  pub down : rows < 2 ^ 16
-
 pub record TagInRange (tag : ℕ) : Type 0 where
   pub small : tag < 2 ^ 8
 
@@ -106,6 +102,7 @@ abbrev pub DoneInRange : {A : Type 0} → DeviceEvent A → Type 0
 DoneInRange (device.Plug spec) = SpecInRange spec
 DoneInRange (device.Supply bs) = EachInRange bs
 DoneInRange (device.Receive bs) = EachInRange bs
+DoneInRange (device.Resize cols rows) = SizeInRange cols rows
 DoneInRange (device.Host said) = HostInRange said
 DoneInRange done = ⊤
 

@@ -49,22 +49,29 @@ verdict Failed = codes "failed"
 abbrev pub card : List ℕ → ℕ → List ℕ
 card mac mtu = bytes mac ++ 58 ∷ num mtu
 
+-- a console: its columns and its rows, with `:` (58) between them
+abbrev pub console : ℕ → ℕ → List ℕ
+console cols rows = num cols ++ 58 ∷ num rows
+
 -- what a further device is to be, of which a disk's fields stand behind this one
 abbrev pub device_kind : DeviceSpec → List ℕ
 device_kind spec.Entropy = codes "entropy"
 device_kind (spec.Network mac mtu) = codes "network:" ++ card mac mtu
 device_kind (spec.Block sectors read_only identity depth) = codes "disk"
+device_kind (spec.Console cols rows) = codes "console:" ++ console cols rows
 
 abbrev pub is_disk : DeviceSpec → Bool
 is_disk spec.Entropy = false
 is_disk (spec.Network mac mtu) = false
 is_disk (spec.Block sectors read_only identity depth) = true
+is_disk (spec.Console cols rows) = false
 
 -- those of a disk: how many sectors it has, whether it is read-only, its identity, and how many operations may be in
 -- flight
 abbrev pub spec_fields : DeviceSpec → List (List ℕ)
 spec_fields spec.Entropy = []
 spec_fields (spec.Network mac mtu) = []
+spec_fields (spec.Console cols rows) = []
 spec_fields (spec.Block sectors read_only identity depth) =
     num sectors ∷ mode read_only ∷ bytes identity ∷ num depth ∷ []
 

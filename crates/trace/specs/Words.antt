@@ -5,16 +5,16 @@ use Rattle.board.specs.declared.spec.Backing.{Backing}
 use Rattle.board.specs.declared.spec.Backing.TheVariants.{Image, Host}
 use Rattle.board.specs.declared.event.SlotWindow.{SlotWindow}
 use Rattle.device_list.specs.declared.spec.DeviceSpec.{DeviceSpec}
-use Rattle.device_list.specs.declared.spec.DeviceSpec.TheVariants.{Entropy, Network, Block}
+use Rattle.device_list.specs.declared.spec.DeviceSpec.TheVariants.{Entropy, Network, Block, Console}
 use Rattle.block_device.specs.declared.operation.Verdict as operation
 use Rattle.trace.specs.declared.format.Format.{Format}
 use Rattle.trace.specs.declared.format.Format.TheVariants.{Plain, Extended}
 use Rattle.trace.specs.declared.table.Field.{Field}
 use Rattle.trace.specs.declared.table.Field.TheVariants as field
 use Rattle.trace.specs.declared.word.Word.{Word}
-use Rattle.trace.specs.declared.word.Word.TheVariants.{Cache, Slot, Read, Write, MemRead, MemWrite, Input, Resize, Restore, Complete, Drop, Hold, Release, Plug, DeviceRead, DeviceWrite, Supply, Receive, TakeSent, SetLink, DeviceComplete, DeviceDrop, DeviceHold, DeviceRelease}
+use Rattle.trace.specs.declared.word.Word.TheVariants.{Cache, Slot, Read, Write, MemRead, MemWrite, Input, Resize, Restore, Complete, Drop, Hold, Release, Plug, DeviceRead, DeviceWrite, Supply, Receive, TakeSent, SetLink, DeviceResize, DeviceComplete, DeviceDrop, DeviceHold, DeviceRelease}
 use Rattle.hexadecimal.specs.Fields.{IsBytesField, IsFixed, SpellsBytes, SpellsNumber}
-use Rattle.trace.specs.Spelling.{window, width_digit, disk, mode, verdict, region_text, regions_text, card, device_kind, link_state}
+use Rattle.trace.specs.Spelling.{window, width_digit, disk, mode, verdict, region_text, regions_text, card, console, device_kind, link_state}
 use Rattle.trace.specs.Format.{IsExtended, if_extended, unless_version_1}
 
 -- how many bytes a register access may have
@@ -71,10 +71,16 @@ pub record FurtherDiskInRange (sectors : ℕ) (identity : List ℕ) (depth : ℕ
   pub twenty : length identity ≡ 20
   pub deep : depth < 2 ^ 8
 
+-- the size of a console, of 16 bits each (5.3.4)
+pub record SizeInRange (cols rows : ℕ) : Type 0 where
+  pub across : cols < 2 ^ 16
+  pub down : rows < 2 ^ 16
+
 abbrev pub SpecInRange : DeviceSpec → Type 0
 SpecInRange Entropy = ⊤
 SpecInRange (Network mac mtu) = CardInRange mac mtu
 SpecInRange (Block sectors read_only identity depth) = FurtherDiskInRange sectors identity depth
+SpecInRange (Console cols rows) = SizeInRange cols rows
 
 -- the field is the address of a network card (5.1.4): exactly six bytes
 pub record IsAddressField (field mac : List ℕ) : Type 0 where
@@ -85,6 +91,11 @@ pub record IsAddressField (field mac : List ℕ) : Type 0 where
 pub record IsCardField (field mac : List ℕ) (mtu : ℕ) : Type 0 where
   pub fits : CardInRange mac mtu
   pub spelled : field ≡ card mac mtu
+
+-- the field is a console
+pub record IsConsoleField (field : List ℕ) (cols rows : ℕ) : Type 0 where
+  pub fits : SizeInRange cols rows
+  pub spelled : field ≡ console cols rows
 
 -- the field is the kind of a further device; of a disk it says nothing else
 pub record IsKindField (field : List ℕ) (spec : DeviceSpec) : Type 0 where
@@ -147,6 +158,7 @@ spelled Supply = codes "supply"
 spelled Receive = codes "frame"
 spelled TakeSent = codes "take"
 spelled SetLink = codes "link"
+spelled DeviceResize = codes "dsz"
 spelled DeviceComplete = codes "dio"
 spelled DeviceDrop = codes "ddrop"
 spelled DeviceHold = codes "dhold"
@@ -167,6 +179,7 @@ IsWordOf format Supply = IsExtended format
 IsWordOf format Receive = IsExtended format
 IsWordOf format TakeSent = IsExtended format
 IsWordOf format SetLink = IsExtended format
+IsWordOf format DeviceResize = IsExtended format
 IsWordOf format DeviceComplete = IsExtended format
 IsWordOf format DeviceDrop = IsExtended format
 IsWordOf format DeviceHold = IsExtended format
@@ -185,6 +198,7 @@ IsDeviceWord Supply = ⊤
 IsDeviceWord Receive = ⊤
 IsDeviceWord TakeSent = ⊤
 IsDeviceWord SetLink = ⊤
+IsDeviceWord DeviceResize = ⊤
 IsDeviceWord DeviceComplete = ⊤
 IsDeviceWord DeviceDrop = ⊤
 IsDeviceWord DeviceHold = ⊤
@@ -247,6 +261,7 @@ fields_in format Supply is_disk = field.Slot ∷ field.Device ∷ field.Bytes �
 fields_in format Receive is_disk = field.Slot ∷ field.Device ∷ field.Bytes ∷ []
 fields_in format TakeSent is_disk = field.Slot ∷ field.Device ∷ []
 fields_in format SetLink is_disk = field.Slot ∷ field.Device ∷ field.Link ∷ []
+fields_in format DeviceResize is_disk = field.Slot ∷ field.Device ∷ field.Columns ∷ field.Rows ∷ []
 fields_in format DeviceComplete is_disk = field.Slot ∷ field.Device ∷ field.Tag ∷ field.Verdict ∷ []
 fields_in format DeviceDrop is_disk = field.Slot ∷ field.Device ∷ []
 fields_in format DeviceHold is_disk = field.Slot ∷ field.Device ∷ []

@@ -356,6 +356,10 @@ fn device_says<'a, A: Allocator>(
             fields.up = *up;
             (Word::SetLink, fields)
         }
+        DeviceEvent::Resize { cols, rows } => {
+            (fields.columns, fields.rows) = (*cols, *rows);
+            (Word::DeviceResize, fields)
+        }
         DeviceEvent::Host(HostEvent::Complete { tag, verdict }) => {
             (fields.tag, fields.verdict) = (*tag, *verdict);
             (Word::DeviceComplete, fields)

@@ -1,8 +1,8 @@
 //! Reading a whole trace.
 //!
 //! `cut` takes lines and fields off. `entry` and `fields` read one line, whose `values` are read over the table of its
-//! fields, and `fast_path` those that come most often. `choice`, `card`, `offset`, `regions` and `identity` read one field, and `number` the front of a line. `parsed` is the event
-//! that a line says, with its bytes still spelled. `validating` goes over a whole text and keeps what stands before its
+//! fields, and `fast_path` those that come most often. `choice`, `card`, `console`, `offset`, `regions` and `identity` read one field, and `number` the front of a line. `parsed` is the
+//! event that a line says, with its bytes still spelled. `validating` goes over a whole text and keeps what stands before its
 //! events, `events` takes these one by one, and `at_fault` finds the fault of a line, and its field.
 
 ghost use Rattle.std.specs.Prelude.{◌≡◌, ◌≢◌, ◌≤◌, IfOk, IfErr, OnOk};
@@ -15,6 +15,7 @@ ghost use Rattle.trace.specs.ParsedEvent.{IsFineParsed};
 mod at_fault;
 mod card;
 mod choice;
+mod console;
 mod cut;
 mod device_fields;
 mod entry;

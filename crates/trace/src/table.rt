@@ -83,6 +83,7 @@ pub fn fields_after(format: Format, word: Word, is_disk: bool) -> &'static [Fiel
         Word::Supply | Word::Receive => &[Slot, Device, Bytes],
         Word::TakeSent => &[Slot, Device],
         Word::SetLink => &[Slot, Device, Link],
+        Word::DeviceResize => &[Slot, Device, Columns, Rows],
         Word::DeviceComplete => &[Slot, Device, Tag, Verdict],
         Word::DeviceDrop | Word::DeviceHold | Word::DeviceRelease => &[Slot, Device],
     }

@@ -32,6 +32,7 @@ pub enum Word {
     Receive,
     TakeSent,
     SetLink,
+    DeviceResize,
     DeviceComplete,
     DeviceDrop,
     DeviceHold,
@@ -62,6 +63,7 @@ pub(crate) fn word_of(field: &[u8]) -> Option<Word>
         b"frame" => Some(Word::Receive),
         b"take" => Some(Word::TakeSent),
         b"link" => Some(Word::SetLink),
+        b"dsz" => Some(Word::DeviceResize),
         b"dio" => Some(Word::DeviceComplete),
         b"ddrop" => Some(Word::DeviceDrop),
         b"dhold" => Some(Word::DeviceHold),
@@ -102,6 +104,7 @@ pub(crate) fn is_word_of(format: Format, word: Word) -> bool
         | Word::Receive
         | Word::TakeSent
         | Word::SetLink
+        | Word::DeviceResize
         | Word::DeviceComplete
         | Word::DeviceDrop
         | Word::DeviceHold
@@ -151,6 +154,7 @@ fn device_word<A: Allocator>(done: &DeviceEvent<A>) -> Word
         DeviceEvent::Receive { .. } => Word::Receive,
         DeviceEvent::TakeSent => Word::TakeSent,
         DeviceEvent::SetLink { .. } => Word::SetLink,
+        DeviceEvent::Resize { .. } => Word::DeviceResize,
         DeviceEvent::Host(said) => device_host_word(said),
     }
 }
@@ -190,6 +194,7 @@ pub(crate) fn spelling_of(word: Word) -> &'static [u8]
         Word::Receive => b"frame",
         Word::TakeSent => b"take",
         Word::SetLink => b"link",
+        Word::DeviceResize => b"dsz",
         Word::DeviceComplete => b"dio",
         Word::DeviceDrop => b"ddrop",
         Word::DeviceHold => b"dhold",

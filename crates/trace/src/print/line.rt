@@ -177,5 +177,11 @@ fn push_kind<A: Allocator>(out: &mut Vec<u8, A>, kind: DeviceSpec) -> Result<(),
             push_num(out, u64::from(mtu))
         }
         DeviceSpec::Block { .. } => out.extend_from_slice(b"disk"),
+        DeviceSpec::Console { cols, rows } => {
+            out.extend_from_slice(b"console:")?;
+            push_num(out, u64::from(cols))?;
+            out.push(b':')?;
+            push_num(out, u64::from(rows))
+        }
     }
 }

@@ -98,6 +98,10 @@ fn done_in_range<A: Allocator>(done: &DeviceEvent<A>)
         DeviceEvent::Plug(spec) => spec_in_range(*spec),
         DeviceEvent::Supply { bytes } => bytes_in_range(bytes.as_slice()),
         DeviceEvent::Receive { frame } => bytes_in_range(frame.as_slice()),
+        DeviceEvent::Resize { cols, rows } => {
+            let _cols = *cols;
+            let _rows = *rows;
+        }
         DeviceEvent::Host(HostEvent::Complete { tag, .. }) => {
             let _tag = *tag;
         }
@@ -123,6 +127,10 @@ fn spec_in_range(spec: DeviceSpec)
             let _sectors = sectors;
             bytes_in_range(&identity);
             let _depth = depth;
+        }
+        DeviceSpec::Console { cols, rows } => {
+            let _cols = cols;
+            let _rows = rows;
         }
     }
 }

@@ -7,6 +7,7 @@ ghost use Rattle.trace.specs.Spelling.{link_state, window, mode, verdict};
 ghost use Rattle.trace.specs.Words.{IsDiskField, IsKindField, is_disk_kind, IsWidthField, Says, Disk, Kind, Link, Window, Width, Mode, Verdict as ByVerdict};
 
 use crate::read::card::card_of;
+use crate::read::console::console_of;
 use board::{Backing, DeviceSpec, SlotWindow, Verdict};
 use hexadecimal::number_u8;
 
@@ -104,7 +105,10 @@ pub(crate) fn kind_of(field: &[u8]) -> Option<DeviceSpec>
     match field {
         b"entropy" => Some(DeviceSpec::Entropy),
         b"disk" => Some(blank_disk()),
-        _ => card_of(field),
+        _ => match card_of(field) {
+            Some(card) => Some(card),
+            None => console_of(field),
+        },
     }
 }
 

@@ -1,8 +1,8 @@
-//! Cutting a text into its lines and a line into its fields, each at the front.
+//! Cutting a text into its lines, a line into its fields and a field at a sign, each at the front.
 
 ghost use Rattle.std.specs.Prelude.{◌≡◌, ◌++◌, ◌∷◌, [], IfSome, IfNone, OnSome, slice_index_or};
 ghost use Rattle.std.specs.Option.{option_copied};
-ghost use Rattle.trace.specs.Cuts.{fields_of, fields_left, lines_of};
+ghost use Rattle.trace.specs.Cuts.{fields_of, fields_left, lines_of, parts, parts_left};
 ghost use Rattle.trace.specs.Faults.{line_at};
 ghost use Rattle.trace.specs.Words.{AllRight};
 
@@ -82,5 +82,15 @@ pub(crate) fn at_end(rest: Option<&[u8]>) -> Option<()>
     match rest {
         Some(_) => None,
         None => Some(()),
+    }
+}
+
+/// What stands before the first of these signs, and what follows that, where there is one.
+pub(crate) fn cut(bytes: &[u8], sign: u8) -> (&[u8], Option<&[u8]>)
+    ensures { parts sign bytes.now ≡ result.0.now ∷ parts_left sign (option_copied result.1) }
+{
+    match memchr::memchr(sign, bytes) {
+        Some(i) => (&bytes[..i], Some(&bytes[i + 1..])),
+        None => (bytes, None),
     }
 }

@@ -63,6 +63,7 @@ pub(crate) fn device_of<'a, A: Allocator>(
             };
             ParsedEvent::device(slot as u8, device as u8, DeviceEvent::SetLink { up }, &[])
         }
+        Word::DeviceResize => resize_of(values),
         _ => said_of(word, values),
     }
 }
@@ -117,6 +118,21 @@ fn disk_of(values: &[FieldValue<'_>]) -> DeviceSpec
         identity,
         depth: depth as u8,
     }
+}
+
+// What those of a resize say.
+fn resize_of<'a, A: Allocator>(values: &[FieldValue<'a>]) -> ParsedEvent<'a, A>
+    requires { AreOf (shapes Format.Extended Word.DeviceResize (map value_text values.now)) values.now }
+    ensures fields { parsed_fields result ≡ spelled Word.DeviceResize ∷ map value_text values.now }
+    ensures word { word_for result.event.what ≡ Word.DeviceResize }
+    ensures fine { IsFineParsed result }
+{
+    let &[Number(slot), Number(device), Number(cols), Number(rows)] = values else {
+        unreachable!()
+    };
+    let (cols, rows) = (cols as u16, rows as u16);
+    let resize = DeviceEvent::Resize { cols, rows };
+    ParsedEvent::device(slot as u8, device as u8, resize, &[])
 }
 
 // What those say that the host says of a further disk.

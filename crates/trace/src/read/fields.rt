@@ -126,6 +126,7 @@ fn parsed_of<'a, A: Allocator>(
         | Word::Receive
         | Word::TakeSent
         | Word::SetLink
+        | Word::DeviceResize
         | Word::DeviceComplete
         | Word::DeviceDrop
         | Word::DeviceHold

@@ -1,11 +1,10 @@
 //! The field that spells the regions of a guest's memory.
 
-ghost use Rattle.std.specs.Prelude.{◌≡◌, ◌∷◌, ◌↔◌, IfNone, IfSome, IsTrue, OnSome};
-ghost use Rattle.std.specs.Option.{option_copied};
+ghost use Rattle.std.specs.Prelude.{◌↔◌, IfNone, IfSome, IsTrue, OnSome};
 ghost use Rattle.guest_memory.specs.declared.spec.RegionSpec.{RegionSpec};
-ghost use Rattle.trace.specs.Cuts.{parts, parts_left};
 ghost use Rattle.trace.specs.Words.{IsRegionField, IsRegionsField, Regions as ByRegions, Says};
 
+use crate::read::cut::cut;
 use arrayvec::ArrayVec;
 use guest_memory::{MOST_REGIONS, RegionSpec, Regions};
 use hexadecimal::number;
@@ -46,14 +45,4 @@ fn region_of(part: &[u8]) -> Option<RegionSpec>
         base: number(base)?,
         len: number(len?)?,
     })
-}
-
-// What stands before the first of these signs, and what follows that, where there is one.
-fn cut(bytes: &[u8], sign: u8) -> (&[u8], Option<&[u8]>)
-    ensures { parts sign bytes.now ≡ result.0.now ∷ parts_left sign (option_copied result.1) }
-{
-    match memchr::memchr(sign, bytes) {
-        Some(i) => (&bytes[..i], Some(&bytes[i + 1..])),
-        None => (bytes, None),
-    }
 }

@@ -1,7 +1,7 @@
 use Rattle.std.proofs.lemmas.List.{take_rest}
 use Rattle.trace.specs.Cuts.{parts}
 use Rattle.trace.proofs.Cutting.{cut_found, cut_unfound}
-use Rattle.trace.proofs.read.regions.cut.Goals as goal
+use Rattle.trace.proofs.read.cut.cut.Goals as goal
 
 pub returns-in-Some : goal.returns-in-Some
 unfolding parts
