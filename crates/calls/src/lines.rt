@@ -34,6 +34,7 @@ pub fn example_of(format: Format, word: Word, is_disk: bool) -> (&'static str, &
         Word::Receive => ("frame", "0 0 525400123456525400abcdef88b50102"),
         Word::TakeSent => ("take", "0 0"),
         Word::SetLink => ("link", "0 0 up"),
+        Word::DeviceResize => ("dsz", "0 0 50 19"),
         Word::DeviceComplete => ("dio", "0 0 0 done"),
         Word::DeviceDrop => ("ddrop", "0 0"),
         Word::DeviceHold => ("dhold", "0 0"),
@@ -94,7 +95,7 @@ pub fn spelling_of(field: Field) -> Spelling {
         Field::Mode => Other("a disk is rw or ro"),
         Field::Verdict => Other("what came of an operation is done or failed"),
         Field::Kind => Other(
-            "a further device is entropy, network:525400123456:5dc by its address and its MTU, or disk",
+            "a further device is entropy, network:525400123456:5dc by its address and its MTU, console:50:19 by its columns and rows, or disk",
         ),
         Field::Link => Other("a link is up or down"),
         Field::Bytes => {
