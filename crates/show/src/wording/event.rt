@@ -32,12 +32,12 @@ pub fn say_event(text: &mut Text, what: &EventKind, kind: Option<DeviceKind>) {
     } else if let Some((_, told)) = told_of(what) {
         say_told(text, told);
     } else {
-        say_other(text, what);
+        say_other(text, what, kind);
     }
 }
 
 // Says what an event was that is neither an access nor said by the host of a disk.
-fn say_other(text: &mut Text, what: &EventKind) {
+fn say_other(text: &mut Text, what: &EventKind, kind: Option<DeviceKind>) {
     match what {
         EventKind::MemRead { addr, len } => {
             text.say("reads ");
@@ -51,29 +51,42 @@ fn say_other(text: &mut Text, what: &EventKind) {
             text.say(" at ");
             text.hex(*addr);
         }
-        EventKind::Input { bytes } => {
-            text.say("types ");
-            text.quoted(bytes.as_slice(), SHOWN);
-        }
-        EventKind::Resize { cols, rows } => {
-            text.say("is resized to ");
-            text.count(u64::from(*cols));
-            text.say(" by ");
-            text.count(u64::from(*rows));
-        }
+        EventKind::Input { bytes } => say_typed(text, bytes.as_slice()),
+        EventKind::Resize { cols, rows } => say_resized(text, *cols, *rows),
         EventKind::Restore { bytes } => {
             text.say("are restored from ");
             text.counted(bytes.as_slice().len() as u64, "byte");
         }
-        EventKind::Device { what, .. } => say_device_event(text, what),
+        EventKind::Device { what, .. } => say_device_event(text, what, kind),
         _ => {}
     }
 }
 
-// Says what is done to a further device, other than an access and what the host says of a disk.
-fn say_device_event(text: &mut Text, what: &DeviceEvent) {
+// Says what is typed to a console.
+fn say_typed(text: &mut Text, bytes: &[u8]) {
+    text.say("types ");
+    text.quoted(bytes, SHOWN);
+}
+
+// Says the size that a console gets.
+fn say_resized(text: &mut Text, cols: u16, rows: u16) {
+    text.say("is resized to ");
+    say_size(text, cols, rows);
+}
+
+// Says the size of a console.
+fn say_size(text: &mut Text, cols: u16, rows: u16) {
+    text.count(u64::from(cols));
+    text.say(" by ");
+    text.count(u64::from(rows));
+}
+
+// Says what is done to a further device of this kind, other than an access and what the host says of a disk.
+fn say_device_event(text: &mut Text, what: &DeviceEvent, kind: Option<DeviceKind>) {
+    let is_console = kind == Some(DeviceKind::Console);
     match what {
         DeviceEvent::Plug(spec) => say_plug(text, spec),
+        DeviceEvent::Supply { bytes } if is_console => say_typed(text, bytes.as_slice()),
         DeviceEvent::Supply { bytes } => {
             text.say("is supplied with ");
             text.counted(bytes.as_slice().len() as u64, "byte");
@@ -82,9 +95,11 @@ fn say_device_event(text: &mut Text, what: &DeviceEvent) {
             text.say("gets a frame of ");
             text.counted(frame.as_slice().len() as u64, "byte");
         }
+        DeviceEvent::TakeSent if is_console => text.say("the host takes the output"),
         DeviceEvent::TakeSent => text.say("the host takes a frame"),
         DeviceEvent::SetLink { up: true } => text.say("the link goes up"),
         DeviceEvent::SetLink { up: false } => text.say("the link goes down"),
+        DeviceEvent::Resize { cols, rows } => say_resized(text, *cols, *rows),
         _ => {}
     }
 }
@@ -109,6 +124,10 @@ fn say_plug(text: &mut Text, spec: &DeviceSpec) {
             };
             text.say("a disk is plugged in, ");
             say_disk(text, extent, Backing::Host { depth: *depth }, *read_only);
+        }
+        DeviceSpec::Console { cols, rows } => {
+            text.say("a console is plugged in, ");
+            say_size(text, *cols, *rows);
         }
     }
 }
