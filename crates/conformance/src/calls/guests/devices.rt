@@ -100,6 +100,9 @@ pub(super) fn answer_device<A: Allocator + Copy>(
         ),
         DeviceEvent::TakeSent => put_taken(answer, session.take_sent(slot, device)),
         DeviceEvent::SetLink { up } => put_result(answer, session.set_link(slot, device, *up)),
+        DeviceEvent::Resize { cols, rows } => {
+            put_result(answer, session.resize_device(slot, device, *cols, *rows))
+        }
         DeviceEvent::Host(said) => put_progress(answer, session.tell(slot, device, *said)),
     }
 }
