@@ -113,10 +113,13 @@ class Device:
 class Entropy(Device):
     """An entropy device."""
 
+    # What its host supplies.
+    BYTES = "bytes of entropy"
+
     def supply(self, answer, given):
         taken = int(answer.removeprefix("took:"), 16)
         self.supplied += given[:taken]
-        self.counts["bytes of entropy supplied"] += taken
+        self.counts[f"{self.BYTES} supplied"] += taken
 
     def arrived(self, got):
         if not got:
@@ -124,7 +127,22 @@ class Entropy(Device):
         if got != self.supplied[:len(got)]:
             raise Wrong(f"{got[:20].hex()} isn't what was supplied next")
         self.supplied = self.supplied[len(got):]
-        self.counts["bytes of entropy found"] += len(got)
+        self.counts[f"{self.BYTES} found"] += len(got)
+
+
+class Console(Entropy):
+    """A console. Its driver relies on each answer that takes output, so that is counted here."""
+
+    BYTES = "bytes typed"
+
+    def transmitted(self, chains):
+        self.counts["chains put out by further consoles"] += len(self.used)
+
+    def resized(self, answer):
+        self.bits |= 2
+
+    def take(self, answer):
+        self.counts["bytes taken of further consoles"] += len(bytes_of(answer))
 
 
 class Disk(Device):
@@ -195,7 +213,7 @@ def bytes_of(answer):
 
 
 # By the first word of a kind in a trace.
-KINDS = {"entropy": Entropy, "network": Card, "disk": Disk}
+KINDS = {"entropy": Entropy, "network": Card, "disk": Disk, "console": Console}
 
 
 def check_arrivals(guest, records, counts):

@@ -1,5 +1,5 @@
 """Drivers of further devices, and what the host of a guest does with these: entropy devices and network cards here, disks in
-further_disks.py.
+further_disks.py, consoles in further_consoles.py.
 
 A sane driver counts what waits in its device, and so knows which chains are used before it sees an answer. What its host gave, and
 what it offered, stands at its events as `meant`, for arrivals.py.
@@ -21,9 +21,10 @@ SUPPLIES = [0, 1, 7, 64, 300, 1000, 4095, 4096, 5000]
 BURSTS = 6 * [1] + [2, 2, 3, 3, 5, 70]
 # What no device takes that isn't there.
 TO_NONE = ["dr {} 000 4", "dw {} 070 4 00000000", "supply {} 00", "frame {} 00", "take {}", "link {} down",
-           "dio {} 0 done", "ddrop {}", "dhold {}", "drelease {}"]
-# And no device takes that is no disk.
+           "dsz {} 50 19", "dio {} 0 done", "ddrop {}", "dhold {}", "drelease {}"]
+# And no device takes that is no disk, and none that is no console.
 OF_DISKS = ["dio {} 0 failed", "ddrop {}", "dhold {}", "drelease {}"]
+OF_CONSOLES = ["dsz {} 50 19"]
 
 # A chain that was offered: by which number the device names it, how many places of the ring it has, its buffers, their length, and
 # what the driver wrote into them, where the device reads it.
@@ -183,7 +184,7 @@ class EntropyDriver(FurtherDriver):
         return [self.supply, self.supply, self.ask, self.ask, self.ask, self.odd]
 
     def refused(self):
-        return ["frame {} 00", "take {}", "link {} up", *OF_DISKS]
+        return ["frame {} 00", "take {}", "link {} up", *OF_DISKS, *OF_CONSOLES]
 
     def supply(self):
         guest = self.guest
@@ -237,7 +238,7 @@ class CardDriver(FurtherDriver):
         return [self.hand_over] * 4 + [self.receive] * 5 + [self.transmit] * 4 + [self.take] * 2 + [self.link, self.odd]
 
     def refused(self):
-        return ["supply {} 00", "frame {} -", "frame {} " + "00" * (self.mtu + ETHERNET + 1), *OF_DISKS]
+        return ["supply {} 00", "frame {} -", "frame {} " + "00" * (self.mtu + ETHERNET + 1), *OF_DISKS, *OF_CONSOLES]
 
     def length(self):
         """A frame's length, most times a short one where the card takes long ones."""

@@ -4,7 +4,7 @@ A sane driver knows which requests its host has, by their tags, which are used, 
 its host's events, on each used entry, status and byte that was read. What a hosted trace says that its disk is asked stands at its
 events as `begins`.
 """
-from further_devices import FurtherDriver
+from further_devices import OF_CONSOLES, FurtherDriver
 from guests import FLUSH, IDENTITY, IOERR, OK, READ, SECTOR, UNSUPPORTED, WRITE, ZERO, segment_bytes
 from queues import AVAIL, BUFFERS, USED, PackedQueue
 from queues import WRITE as WRITABLE
@@ -67,7 +67,7 @@ class DiskDriver(FurtherDriver):
         return [self.request] * 8 + [self.complete_some] * 4 + ends + [self.idle, self.wait, self.drop, self.odd]
 
     def refused(self):
-        return ["supply {} 00", "frame {} 00", "take {}", "link {} up"]
+        return ["supply {} 00", "frame {} 00", "take {}", "link {} up", *OF_CONSOLES]
 
     def step(self):
         for _ in range(self.guest.dice.choice([1, 2, 4])):

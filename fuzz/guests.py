@@ -32,8 +32,8 @@ class Slot(namedtuple("Slot", "base length start count read_only columns rows id
 
 
 # What a board offers its drivers: the low word of each window's features, and the high word of both; and the low words of an entropy
-# device, a network card and a disk, where it has these as further devices.
-Offered = namedtuple("Offered", "block console high entropy network disk", defaults=3 * [None])
+# device, a network card, a disk and a console, where it has these as further devices.
+Offered = namedtuple("Offered", "block console high entropy network disk further_console", defaults=4 * [None])
 
 # Where a guest keeps its virtqueues, block, receive and transmit: from its memory's base on.
 PLACES = [0x0000, 0x3000, 0x4800]
@@ -48,7 +48,7 @@ OK, IOERR, UNSUPPORTED = 0, 1, 2
 IDENTITY_TEXT = b"vreplay-block".ljust(20, b"\0")
 PENDING_LIMIT = 4096
 # The events of further devices.
-FURTHER_WORDS = ["plug", "dr", "dw", "supply", "frame", "take", "link", "dio", "ddrop", "dhold", "drelease"]
+FURTHER_WORDS = ["plug", "dr", "dw", "supply", "frame", "take", "link", "dsz", "dio", "ddrop", "dhold", "drelease"]
 
 # What a hostile guest picks from.
 ODD_COUNTS = [1, 2, 3, 15, 16, 17, 31, 32, 33, 127, 128, 129, 255, 256, 257]
@@ -529,7 +529,8 @@ class Mischief:
         """A further device as any number."""
         dice = self.dice
         disk = f"disk {dice.choice([0, 8, 1 << 32, (1 << 55) - 1, 1 << 55]):x} {dice.choice(['rw', 'ro'])} {dice.randbytes(20).hex()} {dice.choice([0, 1, 64, 65]):x}"
-        kind = dice.choice(["entropy", f"network:{dice.randbytes(6).hex()}:{dice.choice([0, 67, 68, 1500, 0xFFFF]):x}", disk])
+        kind = dice.choice(["entropy", f"network:{dice.randbytes(6).hex()}:{dice.choice([0, 67, 68, 1500, 0xFFFF]):x}", disk,
+                            f"console:{dice.randrange(1 << 16):x}:{dice.randrange(1 << 16):x}"])
         self.guest.do("plug", f"{dice.choice([0, self.guest.plugged, 5, 6, 255]):x} {kind}")
 
     def odd_host(self):
@@ -538,6 +539,7 @@ class Mischief:
         word, fields = dice.choice([
             ("supply", dice.randbytes(dice.choice([0, 1, 100, 5000])).hex() or "-"), ("link", dice.choice(["up", "down"])), ("take", ""),
             ("frame", dice.randbytes(dice.choice([0, 1, 14, 60, 82, 83, 1514, 1515])).hex() or "-"), ("ddrop", ""), ("dhold", ""),
+            ("dsz", f"{dice.randrange(1 << 16):x} {dice.randrange(1 << 16):x}"),
             *4 * [("dio", f"{dice.choice([0, 0, 0, 1, 2, 63, 255]):x} {dice.choice(['done', 'failed'])}")], ("drelease", "")])
         self.guest.do(word, f"{number:x} {fields}".strip())
 

@@ -1,6 +1,7 @@
 """A board with its guests and the order of their events, from a seed."""
 import random
 
+from further_consoles import FurtherConsole
 from further_devices import give_devices
 from further_disks import DiskDriver
 from guests import IDENTITY_TEXT, MEMORIES, SECTOR, Guest, Slot, live
@@ -28,7 +29,7 @@ FURTHER = 1 / 2
 # How many events more a guest does for each of them.
 FURTHER_EVENTS = 300
 STRANGE = ["plug {} 0 entropy", "dr {} 0 000 4", "dw {} 0 070 4 00000000", "supply {} 0 ff", "frame {} 0 ff", "take {} 0", "link {} 0 up",
-           "dio {} 0 0 done", "ddrop {} 0", "dhold {} 0", "drelease {} 0"]
+           "dsz {} 0 50 19", "dio {} 0 0 done", "ddrop {} 0", "dhold {} 0", "drelease {} 0"]
 
 # How many operations of a hosted disk may be in flight.
 DEPTHS = [1, 1, 2, 3, 8, 64]
@@ -95,7 +96,8 @@ class Scene:
         """Gives a guest further devices, where it may have some."""
         may = self.may_have_devices and self.first_line == EXTENDED and not (guest.is_hosted and guest.wildness)
         if may and dice.random() < FURTHER:
-            give_devices(guest, offered, dice, [DiskDriver] if offered.disk is not None else [])
+            kinds = [(offered.disk, DiskDriver), (offered.further_console, FurtherConsole)]
+            give_devices(guest, offered, dice, [driver for low, driver in kinds if low is not None])
 
     def live(self, guest, offered, disk, count):
         """Makes a guest do about `count` events over its disk."""
