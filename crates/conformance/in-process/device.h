@@ -19,17 +19,18 @@ struct region {
     uint64_t base, len;
 };
 
-/* How many further devices a guest has at most, and one of them: an entropy device, a network card, or a disk that the
- * trace serves, with as many sectors, the identity, and at most so many operations in flight. */
+/* How many further devices a guest has at most, and one of them: an entropy device, a network card, a disk that the trace
+ * serves, with as many sectors, the identity, and at most so many operations in flight, or a console of such a size. */
 enum { MOST_DEVICES = 6 };
 struct further_device {
-    bool is_card, is_disk;
+    bool is_card, is_disk, is_console;
     uint8_t mac[6];
     uint16_t mtu;
     bool read_only;
     uint8_t depth;
     uint64_t sectors;
     uint8_t identity[20];
+    uint16_t cols, rows;
 };
 
 /* One guest: its memory, the sectors of the image that its disk shows, its console's size, what its disk answers to
@@ -119,13 +120,15 @@ struct hosting {
 struct further {
     bool (*read)(unsigned guest, unsigned number, unsigned offset, unsigned width, uint32_t *value);
     bool (*write)(unsigned guest, unsigned number, unsigned offset, unsigned width, uint32_t value);
-    /* Supplies an entropy device with bytes; how many of them it took, the first ones. */
+    /* Supplies an entropy device with bytes, or types them to a console; how many of them it took, the first ones. */
     bool (*supply)(unsigned guest, unsigned number, const uint8_t *bytes, size_t len, size_t *taken);
-    /* Hands a network card a frame; whether it took it. Takes the oldest that the card's driver sent, which has `len`
-     * bytes, or 0 where none waits. */
+    /* Hands a network card a frame; whether it took it. Takes the oldest that the card's driver sent, or all output of a
+     * console, which has `len` bytes, or 0 where none waits. */
     bool (*receive)(unsigned guest, unsigned number, const uint8_t *frame, size_t len, bool *taken);
     bool (*take)(unsigned guest, unsigned number, uint8_t *frame, size_t room, size_t *len);
     bool (*set_link)(unsigned guest, unsigned number, bool up);
+    /* Gives a console another size. Null: guests have no further consoles. */
+    bool (*resize)(unsigned guest, unsigned number, uint16_t cols, uint16_t rows);
 };
 
 /* The device. What a write or an input notifies is served before the call returns. */

@@ -88,7 +88,9 @@ static const char *make(const struct setup *setup)
         for (size_t j = 0; j < guest->devices_len; j++) {
             const struct further_device *device = &guest->devices[j];
             slots[i].devices[j] = (struct kalyubos_device){
-                .kind = device->is_disk ? KALYUBOS_DISK : device->is_card ? KALYUBOS_NETWORK : KALYUBOS_ENTROPY,
+                .kind = device->is_disk ? KALYUBOS_DISK : device->is_card ? KALYUBOS_NETWORK :
+                        device->is_console ? KALYUBOS_CONSOLE_DEVICE : KALYUBOS_ENTROPY,
+                .cols = device->cols, .rows = device->rows,
                 .mtu = device->mtu, .sectors = device->sectors, .read_only = device->read_only, .depth = device->depth,
             };
             memcpy(slots[i].devices[j].mac, device->mac, sizeof device->mac);
@@ -319,7 +321,12 @@ static bool set_link(unsigned guest, unsigned number, bool up)
     return took(kalyubos_set_link(&board, (uint8_t)guest, window_of(number), up));
 }
 
-static const struct further further = {read_device, write_device, supply, receive, take, set_link};
+static bool resize_device(unsigned guest, unsigned number, uint16_t cols, uint16_t rows)
+{
+    return took(kalyubos_resize_device(&board, (uint8_t)guest, window_of(number), cols, rows));
+}
+
+static const struct further further = {read_device, write_device, supply, receive, take, set_link, resize_device};
 
 static const struct hosting hosting = {true, true, write_hosted, complete, began, asked, drop, hold, release};
 

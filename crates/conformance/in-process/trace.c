@@ -172,15 +172,31 @@ static bool read_further_disk(const struct field *fields, struct further_device 
     return good;
 }
 
+/* A console's columns and rows, behind its word. */
+static bool read_console(struct field field, struct further_device *device)
+{
+    const char *colon = memchr(field.at, ':', field.len);
+    uint64_t cols, rows;
+    if (!colon || !number((struct field){field.at, (size_t)(colon - field.at)}, 0xffff, &cols) ||
+        !number((struct field){colon + 1, field.len - (size_t)(colon + 1 - field.at)}, 0xffff, &rows))
+        return false;
+    device->is_console = true;
+    device->cols = (uint16_t)cols;
+    device->rows = (uint16_t)rows;
+    return true;
+}
+
 /* What a further device is, of the fields behind its number. */
 static bool read_kind(const struct field *fields, size_t count, struct further_device *device)
 {
     struct field field = fields[0];
-    static const char word[] = "network:";
+    static const char word[] = "network:", console[] = "console:";
     size_t len = strlen(word), digits = 2 * sizeof device->mac;
     uint64_t mtu;
     if (is(field, "disk") || count != 1)
         return is(field, "disk") && count == 5 && read_further_disk(&fields[1], device);
+    if (field.len >= strlen(console) && !memcmp(field.at, console, strlen(console)))
+        return read_console((struct field){field.at + strlen(console), field.len - strlen(console)}, device);
     device->is_card = !is(field, "entropy");
     if (!device->is_card)
         return true;
@@ -328,13 +344,24 @@ static bool read_completion(const struct field *fields, struct event *event)
     return event->failed || is(fields[1], "done");
 }
 
+/* The columns and rows of a console. */
+static bool read_size(const struct field *fields, struct event *event)
+{
+    uint64_t cols, rows;
+    if (!number(fields[0], 0xffff, &cols) || !number(fields[1], 0xffff, &rows))
+        return false;
+    event->cols = (uint16_t)cols;
+    event->rows = (uint16_t)rows;
+    return true;
+}
+
 /* A line for a further device, behind its slot's number. */
 static bool read_device_fields(const struct field *fields, size_t count, struct event *event, struct trace *trace)
 {
     static const struct { const char *word; int kind; size_t count; } lines[] = {
         {"plug", PLUG, 4}, {"dr", DEVICE_READ, 5}, {"dw", DEVICE_WRITE, 6}, {"supply", SUPPLY, 4}, {"frame", RECEIVE, 4},
-        {"take", TAKE, 3}, {"link", SET_LINK, 4}, {"plug", PLUG, 8}, {"dio", DISK_COMPLETE, 5}, {"ddrop", DISK_DROP, 3},
-        {"dhold", DISK_HOLD, 3}, {"drelease", DISK_RELEASE, 3},
+        {"take", TAKE, 3}, {"link", SET_LINK, 4}, {"plug", PLUG, 8}, {"dsz", DEVICE_RESIZE, 5}, {"dio", DISK_COMPLETE, 5},
+        {"ddrop", DISK_DROP, 3}, {"dhold", DISK_HOLD, 3}, {"drelease", DISK_RELEASE, 3},
     };
     struct further_device device = {0};
     uint64_t value;
@@ -347,12 +374,15 @@ static bool read_device_fields(const struct field *fields, size_t count, struct 
     event->kind = lines[i].kind;
     event->number = (unsigned)value;
     event->is_there = plugged && event->number < *plugged;
-    event->is_disk = event->is_there && trace->guests[event->guest].devices[event->number].is_disk;
+    const struct further_device *there = event->is_there ? &trace->guests[event->guest].devices[event->number] : &device;
+    event->is_disk = there->is_disk;
+    event->is_console = there->is_console;
     switch (lines[i].kind) {
     case PLUG:
         if (!read_kind(&fields[3], count - 3, &device))
             return false;
         event->is_disk = device.is_disk;
+        event->is_console = device.is_console;
         event->is_there = plugged && may_plug(*plugged, event->number, &device);
         if (event->is_there)
             ++*plugged;
@@ -364,6 +394,7 @@ static bool read_device_fields(const struct field *fields, size_t count, struct 
     case SET_LINK:
         event->up = is(fields[3], "up");
         return event->up || is(fields[3], "down");
+    case DEVICE_RESIZE: return read_size(&fields[3], event);
     case DISK_COMPLETE: return read_completion(&fields[3], event);
     default: return true;
     }
@@ -371,7 +402,7 @@ static bool read_device_fields(const struct field *fields, size_t count, struct 
 
 static bool read_fields(const struct field *fields, size_t count, struct event *event, struct trace *trace)
 {
-    uint64_t value, other;
+    uint64_t value;
     if (!number(fields[1], 0xff, &value))
         return false;
     event->guest = (unsigned)value;
@@ -400,11 +431,9 @@ static bool read_fields(const struct field *fields, size_t count, struct event *
         event->kind = INPUT;
         return read_bytes(fields[2], event);
     }
-    if (is(fields[0], "sz") && count == 4 && number(fields[2], 0xffff, &value) && number(fields[3], 0xffff, &other)) {
+    if (is(fields[0], "sz") && count == 4) {
         event->kind = RESIZE;
-        event->cols = (uint16_t)value;
-        event->rows = (uint16_t)other;
-        return true;
+        return read_size(&fields[2], event);
     }
     if (is(fields[0], "st") && count == 3) {
         event->kind = RESTORE;
@@ -478,7 +507,7 @@ static bool has_such_devices(const struct device *device, const struct event *ev
 {
     bool of_host = event->kind == DISK_DROP || event->kind == DISK_HOLD || event->kind == DISK_RELEASE;
     return device->further && (!event->is_disk || (device->hosting && device->hosting->further_disks)) &&
-           (!event->is_disk || !of_host || call_of(device->hosting, event));
+           (!event->is_disk || !of_host || call_of(device->hosting, event)) && (!event->is_console || device->further->resize);
 }
 
 /* Whether a guest is restored before the trace has plugged in all that the device has from the beginning. */
@@ -552,6 +581,10 @@ static bool reply_device(const struct further *further, const struct event *even
         return true;
     case SET_LINK:
         if (!further->set_link(event->guest, event->number, event->up))
+            return false;
+        break;
+    case DEVICE_RESIZE:
+        if (!event->is_console || !further->resize(event->guest, event->number, event->cols, event->rows))
             return false;
         break;
     case PLUG: break; /* the device has it from the beginning */

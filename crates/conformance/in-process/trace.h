@@ -20,12 +20,12 @@ struct trace {
 struct event {
     enum {
         READ, WRITE, MEMORY_READ, MEMORY_WRITE, INPUT, RESIZE, RESTORE, COMPLETE, DROP, HOLD, RELEASE,
-        PLUG, DEVICE_READ, DEVICE_WRITE, SUPPLY, RECEIVE, TAKE, SET_LINK, /* of a further device */
+        PLUG, DEVICE_READ, DEVICE_WRITE, SUPPLY, RECEIVE, TAKE, SET_LINK, DEVICE_RESIZE, /* of a further device */
         DISK_COMPLETE, DISK_DROP, DISK_HOLD, DISK_RELEASE
     } kind;
     bool failed;
     bool is_there, up; /* the guest has the further device, or it may be plugged in; its link goes up */
-    bool is_disk;      /* the further device is a disk */
+    bool is_disk, is_console; /* the further device is a disk, or a console */
     unsigned guest, window, offset, width, tag, number;
     uint64_t address;
     uint32_t value;
