@@ -1,5 +1,5 @@
 -- Room for frames, by their bytes and their number.
-use Rattle.std.proofs.Common.{◌≡◌, ℕ, ◌+◌, ◌-◌, ◌≤◌, ◌<◌, Bool, true, false, arith, List, length, true≢false, refl, sym, ap, ap₂, ◌∙◌, nat_lt, nat_le, ◌&&◌}
+use Rattle.std.proofs.Common.{◌≡◌, ℕ, ◌+◌, ◌-◌, ◌≤◌, ◌<◌, Bool, true, false, arith, List, [], length, true≢false, refl, sym, ap, ap₂, ◌∙◌, nat_lt, nat_le, ◌&&◌}
 use Rattle.std.proofs.lemmas.Bool.{ltb-true, leb-true, lt-ltb, le-leb}
 use Rattle.std.specs.Bool.{one_answer}
 use Rattle.chain.proofs.Servicing.{both}
@@ -37,6 +37,13 @@ pub shorter : (limits : Limits) (frames : List (List ℕ)) (len less : ℕ) → 
 shorter limits frames len less h le =
     let room = room_of limits frames len h in
     has limits frames less (record { few = room.few; fits = omega (arith, le, room.fits) })
+
+-- and so has what a store may take that takes it behind others
+pub room_alone : (limits : Limits) (frames : List (List ℕ)) (len : ℕ) → has_room limits frames len ≡ true
+    → has_room limits [] len ≡ true
+room_alone limits frames len h =
+    let room = room_of limits frames len h in let few = room.few in let fits = room.fits in
+    has limits [] len (record { few = omega (arith, few); fits = omega (arith, fits) })
 
 -- room in a store, by its two rings
 pub room_is : (lens bytes : List ℕ) (whole most few len : ℕ) → sum_of lens ≡ whole → whole ≤ length bytes

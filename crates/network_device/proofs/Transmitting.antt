@@ -6,10 +6,11 @@ use Rattle.chain.specs.declared.segment.Buffer.{Buffer}
 use Rattle.chain.specs.Bytes.{readable_of, writable_of}
 use Rattle.chain.specs.Service.{Does, used_len}
 use Rattle.chain.proofs.Partial.{unwritten, scattered-unwritten, wrote-unwritten}
+use Rattle.chain.proofs.Servicing.{both}
 use Rattle.network_device.specs.declared.limits.Limits.{Limits}
 use Rattle.network_device.specs.Frames.{has_room}
 use Rattle.network_device.specs.Device.{counted, frame_of, is_sendable, passing, transmit}
-use Rattle.network_device.proofs.Rooms.{shorter}
+use Rattle.network_device.proofs.Rooms.{and_true, room_alone, shorter}
 
 -- The first bytes of the frame stand in the outlet, behind frames that stay.
 pub record IsPuttingOut (limits now : Limits) (frames waiting : List (List ℕ)) (list : List ℕ) (done : ℕ)
@@ -78,6 +79,20 @@ pub sendable_is : (limits : Limits) (readable : List ℕ) (len frame : ℕ) (adm
     → is_sendable limits readable ≡ (nat_lt 12 len && admitted)
 sendable_is limits readable len frame admitted l f a =
     ap₂ (λ (x y : Bool). x && y) (ap (nat_lt 12) l) (room_for limits [] readable len frame admitted l f a)
+
+-- one that may go out now
+pub sent_now : (limits : Limits) (frames : List (List ℕ)) (readable : List ℕ) (len frame : ℕ) (answer : Bool)
+    → length readable ≡ len → frame ≡ len - 12 → answer ≡ has_room limits frames frame
+    → (nat_lt 12 len && answer) ≡ true
+    → (is_sendable limits readable ≡ true)
+    × (has_room limits frames (length (frame_of readable)) ≡ true)
+sent_now limits frames readable len frame answer l f a fits =
+    let p = and_true (nat_lt 12 len) answer fits in
+    let room = room_for limits frames readable len frame answer l f a ∙ p.1 in (
+      both (nat_lt 12 (length readable)) (has_room limits [] (length (frame_of readable)))
+          (ap (nat_lt 12) l ∙ p.0) (room_alone limits frames (length (frame_of readable)) room),
+      room,
+    )
 
 -- a chain is dropped
 pub drop_does : (limits : Limits) (m : Memory) (buffers : List Buffer) (frames : List (List ℕ))

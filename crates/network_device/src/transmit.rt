@@ -63,14 +63,14 @@ impl<O: FrameOutlet> Device<O> for Transmit {
     ) -> Result<Used, NoRoom> {
         let len = chain.readable_len();
         let frame = len.saturating_sub(HEADER);
-        if !((len > HEADER) & out.admits(frame)) {
-            self.dropped = self.dropped.saturating_add(1);
+        if (len > HEADER) & out.has_room(frame) {
+            put_out(mem, chain, out);
             return Ok(Used::UNWRITTEN);
         }
-        if !out.has_room(frame) {
+        if (len > HEADER) & out.admits(frame) {
             return Err(NoRoom);
         }
-        put_out(mem, chain, out);
+        self.dropped = self.dropped.saturating_add(1);
         Ok(Used::UNWRITTEN)
     }
 }
