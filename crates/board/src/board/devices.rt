@@ -1,4 +1,4 @@
-//! The slots' further devices, as somebody sees them who only looks; and what a host hands them in a slice.
+//! The slots' further devices, as somebody sees them who only looks; and their events that take no memory, as calls.
 
 ghost use Rattle.std.specs.Prelude.{◌≡◌, ◌++◌, [], All, None, Some, IfErr, IfOk, IfSome, IsSomeAnd, OnErr};
 ghost use Rattle.std.specs.List.{slice_get};
@@ -65,6 +65,29 @@ impl<I: Image, A: Allocator> Board<I, A> {
 }
 
 impl<I: Image, A: Allocator + Copy> Board<I, A> {
+    /// Writes a register of a further device's window: the event of that, which needn't be made. No memory is taken.
+    pub fn write_device(
+        &mut self,
+        slot: u8,
+        device: u8,
+        offset: u16,
+        width: u8,
+        value: u32,
+    ) -> Reply<A>
+        ensures step { Tells (I.disk self.old.image) → Answers (world_of I.disk self.old)
+            (record { slot = slot; what = EventKind.Device device (DeviceEvent.Write offset width value) }) result [] []
+            (world_of I.disk self.new) }
+        ensures others { KeepsOthers slot self.old.slots self.new.slots }
+        ensures extents { extents_of self.new.slots ≡ extents_of self.old.slots }
+        ensures image { self.new.image ≡ self.old.image }
+        ensures disturbed { disturbed_of self.new.slots ≡ disturbed_of self.old.slots }
+    {
+        let Some(found) = self.slots.get_mut(slot as usize) else {
+            return Reply::BadSlot;
+        };
+        found.write_device(device, offset, width, value)
+    }
+
     /// Supplies a further device with bytes, and answers how many were taken: the event of that, for who has the bytes in a
     /// slice. No memory is taken.
     pub fn supply(&mut self, slot: u8, device: u8, bytes: &[u8]) -> Reply<A>

@@ -125,6 +125,24 @@ impl<A: Allocator + Copy> Guest<A> {
         self.slot.input(bytes, budget)
     }
 
+    /// Writes a register of a further device's window.
+    pub(crate) fn write_device(
+        &mut self,
+        device: u8,
+        offset: u16,
+        width: u8,
+        value: u32,
+    ) -> Reply<A>
+        ensures given { (image : List ℕ) (health : Health) →
+            MayGive (state_of image self.old) (EventKind.Device device (DeviceEvent.Write offset width value)) health health
+            (replies (state_of image self.new) result) }
+        ensures extent { self.new.extent ≡ self.old.extent }
+        ensures disturbed { self.new.disturbed ≡ self.old.disturbed }
+        ensures answered { result ≢ Reply.NoMemory }
+    {
+        self.slot.write_device(device, offset, width, value)
+    }
+
     /// Supplies a further device with bytes.
     pub(crate) fn supply(&mut self, device: u8, bytes: &[u8]) -> Reply<A>
         ensures given { (image : List ℕ) (health : Health) →

@@ -89,8 +89,14 @@ impl<A: Allocator + Copy> Slot<A> {
         }
     }
 
-    // Writes a device's window, and has the device do its part (4.2.2).
-    fn write_device(&mut self, device: u8, offset: u16, width: u8, value: u32) -> Reply<A>
+    /// Writes a device's window, and has the device do its part (4.2.2).
+    pub(crate) fn write_device(
+        &mut self,
+        device: u8,
+        offset: u16,
+        width: u8,
+        value: u32,
+    ) -> Reply<A>
         ensures given { (image : List ℕ) (health : Health) →
             GivesDevice device (DeviceEvent.Write offset width value) (state_of image self.old) health health
             (replies (state_of image self.new) result) }
