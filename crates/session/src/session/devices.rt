@@ -68,16 +68,14 @@ impl<A: Allocator + Copy> Session<A> {
         ensures bad_device { IsErrOf result Refusal.BadDevice ↔
             (IsIdle slot self.old × TakesNothing {A = A} slot device (DeviceEvent.Write offset width value) self.old) }
     {
-        let write = DeviceEvent::Write {
-            offset,
-            width,
-            value,
-        };
+        if self.is_paused(slot) {
+            return Err(Refusal::Busy);
+        }
         let before = self.disk_in_flight(slot, device);
-        let response = self.device_event(slot, device, write);
+        let reply = self.board.write_device(slot, device, offset, width, value);
         let after = self.disk_in_flight(slot, device);
         let asks = has_asked(before, after);
-        served(response, asks)
+        served(Response::Answered(reply), asks)
     }
 
     /// Sets whether a network card's link is up, and tells its driver (5.1.4). It is refused for a bad slot, for a device that is no
