@@ -1,6 +1,6 @@
 //! What a guest's disk is asked for, and what came of it.
 
-ghost use Rattle.std.specs.Prelude.{◌≡◌, ◌≢◌, None, IfNone, IfSome, length};
+ghost use Rattle.std.specs.Prelude.{◌≡◌, ◌≢◌, None, IfNone, IfSome, is_some, length};
 ghost use Rattle.board_ffi.specs.Calls.{Completes, HasInFlight, IsAskedFor, IsAtRest, IsNoDisk, Says, TellsOf};
 ghost use Rattle.board_ffi.specs.Codes.{code_at};
 ghost use Rattle.board_ffi.specs.Disk.{IsInFlight, flight_of, in_flight_of, rest_code};
@@ -70,15 +70,25 @@ fn asked_of(
     ensures rests { IfNone result (flight_of slot disk tag session.now.slots ≡ None) }
 {
     match disk {
-        DiskWindow::Own => {
-            let asked = session.operation(slot, tag)?;
-            Some((asked, session.runs(slot, tag)?))
-        }
+        DiskWindow::Own => session.asked(slot, tag),
         DiskWindow::Further(device) => {
             let disk = session.disk(slot, device)?;
             let asked = disk.operation(tag)?;
             Some((asked, disk.runs(tag)))
         }
+    }
+}
+
+// Whether anything is in flight of a disk with this tag.
+fn is_in_flight(session: &Session, slot: u8, disk: DiskWindow, tag: u8) -> bool
+    ensures { result ≡ is_some (flight_of slot disk tag session.now.slots) }
+{
+    match disk {
+        DiskWindow::Own => session.operation(slot, tag).is_some(),
+        DiskWindow::Further(device) => match session.disk(slot, device) {
+            Some(disk) => disk.operation(tag).is_some(),
+            None => false,
+        },
     }
 }
 
@@ -108,7 +118,7 @@ pub(crate) fn completed(
     ensures completes { Completes slot tag failed result disk session.old session.new }
     ensures pending { TellsOf slot session.new pending.old pending.new }
 {
-    if asked_of(session, slot, disk, tag).is_none() {
+    if !is_in_flight(session, slot, disk, tag) {
         pending.tell(session, slot);
         return at_rest(session, slot, disk);
     }

@@ -2,6 +2,7 @@
 
 ghost use Rattle.std.specs.Prelude.{◌≡◌, ◌≢◌, ◌↔◌, ◌≤◌, None, get_or, length, IfOk, IfSome, IsErrOf, IsSome, IsSomeAnd};
 ghost use Rattle.std.specs.List.{slice_get};
+ghost use Rattle.std.specs.Option.{option_map};
 ghost use Rattle.block_device.specs.Flights.{runs_in};
 ghost use Rattle.block_device.specs.Operation.{LiesInside};
 ghost use Rattle.board.specs.declared.event.EventKind.{EventKind};
@@ -142,7 +143,23 @@ impl<A: Allocator> Session<A> {
             IfSome (get_or (tags_in found.host) tag None) (λ here. LiesInside (sectors_in found) found.memory
             here.flight.operation here.runs))) }
     {
-        self.operation(slot, tag)?;
-        self.board.runs(slot, tag)
+        let (_, runs) = self.asked(slot, tag)?;
+        Some(runs)
+    }
+
+    /// What the host is asked to do for a slot with this tag, and where its bytes lie: `operation` and `runs` by one call.
+    pub fn asked(&self, slot: u8, tag: u8) -> Option<(Operation, &[Segment])>
+        ensures operation { option_map (λ asked. asked.0) result ≡ operation_at slot tag self.now.slots }
+        ensures runs { IfSome result (λ asked. IsSomeAnd (slice_get self.now.slots slot) (λ found.
+            asked.1.now ≡ runs_in (get_or (tags_in found.host) tag None))) }
+
+        // nothing that the host is told lies outside the guest's memory or its disk, whatever the guest has done since
+        ensures inside { IfSome result (λ asked. IsSomeAnd (slice_get self.now.slots slot) (λ found.
+            IfSome (get_or (tags_in found.host) tag None) (λ here. LiesInside (sectors_in found) found.memory
+            here.flight.operation here.runs))) }
+    {
+        let operation = self.operation(slot, tag)?;
+        let runs = self.board.runs(slot, tag)?;
+        Some((operation, runs))
     }
 }
