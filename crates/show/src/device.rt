@@ -21,6 +21,17 @@ impl DeviceName {
     }
 }
 
+/// The device that an event is an access of, or that is a further one to which something is done.
+pub fn device_of(what: &EventKind) -> Option<DeviceName> {
+    match what {
+        EventKind::Read { window, .. } | EventKind::Write { window, .. } => {
+            Some(DeviceName::of_window(*window))
+        }
+        EventKind::Device { device, .. } => Some(DeviceName::Further(*device)),
+        _ => None,
+    }
+}
+
 /// An access of a device's window.
 #[derive(Clone, Copy)]
 pub struct Access {

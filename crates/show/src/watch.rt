@@ -1,6 +1,6 @@
 //! Going along with a replay: each event is handled by a board of one's own, and said.
 
-use crate::device::{Access, DeviceName, access_of, told_of};
+use crate::device::{Access, DeviceName, access_of, device_of, told_of};
 use crate::guest::{SlotQueue, ring_of};
 use crate::look::look;
 use crate::seen::Guest;
@@ -87,7 +87,7 @@ impl Watcher {
         head.count(u64::from(slot));
         say_place(head, &event.what);
         let access = access_of(&event.what);
-        let kind = access.and_then(|access| self.board.kind(slot, access.device));
+        let kind = device_of(&event.what).and_then(|device| self.board.kind(slot, device));
         say_event(head, &event.what, kind);
         if self.board.memory(slot).is_none() {
             head.say(" -> no such guest");

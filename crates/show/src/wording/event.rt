@@ -25,7 +25,7 @@ pub fn say_place(text: &mut Text, what: &EventKind) {
     text.say(": ");
 }
 
-/// Says what an event was. An access is one of a device of this kind.
+/// Says what an event was. An access, or what is done to a further device, is of a device of this kind.
 pub fn say_event(text: &mut Text, what: &EventKind, kind: Option<DeviceKind>) {
     if let Some(access) = access_of(what) {
         say_access(text, access, kind);
