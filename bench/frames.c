@@ -8,7 +8,7 @@
 
 #include "kalyubos.h"
 
-enum { ROUNDS = 40, COUNT = 20000, HEADER = 12, SHORT = 64, LONG = 1514, CARD = KALYUBOS_DEVICE };
+enum { ROUNDS = 2000, COUNT = 1000, HEADER = 12, SHORT = 64, LONG = 1514, CARD = KALYUBOS_DEVICE };
 
 static const uint64_t MEMORY = 0x80000000;
 
