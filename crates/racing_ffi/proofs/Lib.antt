@@ -1,5 +1,2 @@
-pub mod AsBox
-pub mod HandleSteps
+pub mod Holding
 pub mod InFlight
-pub mod OneByOne
-pub mod Runs

@@ -1,7 +1,6 @@
 -- What a call does to the guest behind its handle, whatever that guest writes meanwhile.
-use Rattle.std.specs.Prelude.{◌≡◌, ℕ, ◌++◌, ◌==◌, ◌↔◌, if◌then◌else◌, Bool, false, List, Option, Some, None, MatchOption, Result, IfOk, IsSomeAnd, IsTrue, OnErr, drop, length, min, take}
+use Rattle.std.specs.Prelude.{◌≡◌, ℕ, ◌++◌, ◌==◌, ◌↔◌, if◌then◌else◌, false, List, Option, Some, None, MatchOption, Result, IfOk, IsSomeAnd, IsTrue, OnErr, drop, length, min, take}
 use Rattle.block_device.specs.declared.operation.HostEvent.{HostEvent}
-use Rattle.block_device.specs.declared.operation.Verdict.{Verdict}
 use Rattle.console_device.specs.Input.{fitting}
 use Rattle.racing_hosted_disk.specs.Told.{has_effect}
 use Rattle.racing_guest.specs.declared.reply.GuestWindow.{GuestWindow}
@@ -91,10 +90,6 @@ pub record MovesOutput (into_old into_new : List ℕ) (taken code : ℕ) (old ne
   pub left : new ≡ record old { output = record old.output { bytes = drop taken old.output.bytes } }
 
 -- ---- the disk
-
--- what came of an operation
-abbrev pub verdict_of : Bool → Verdict
-verdict_of failed = if failed then Verdict.Failed else Verdict.Done
 
 -- The session is told what the host says of its disk, and the number is that of its answer. Where there is nothing to do it is 21,
 -- and nothing changes.

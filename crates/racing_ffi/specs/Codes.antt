@@ -1,7 +1,6 @@
 -- The number that stands for each answer: those of a board's calls, and one more.
 use Rattle.std.specs.Prelude.{ℕ, Result, Ok, Err}
-use Rattle.guest_memory.specs.declared.fault.MemoryFault.{MemoryFault}
-use Rattle.guest_memory.specs.declared.fault.MemoryFault.TheVariants as memory
+use Rattle.c_values.specs.Codes.{memory_code}
 use Rattle.racing_session.specs.declared.progress.Progress.{Progress}
 use Rattle.racing_session.specs.declared.progress.Progress.TheVariants.{Done, More, Asks}
 use Rattle.racing_session.specs.declared.progress.Refusal.{Refusal}
@@ -24,14 +23,6 @@ refusal_code Idle = 21
 abbrev pub answer_code : Result Progress Refusal → ℕ
 answer_code (Ok progress) = progress_code progress
 answer_code (Err why) = refusal_code why
-
--- a guest's memory that was refused
-abbrev pub memory_code : MemoryFault → ℕ
-memory_code memory.NoRegions = 27
-memory_code memory.BadSize = 10
-memory_code memory.BadBase = 11
-memory_code memory.NotApart = 28
-memory_code memory.NoMemory = 5
 
 -- a guest that was refused
 abbrev pub fault_code : RacingFault → ℕ

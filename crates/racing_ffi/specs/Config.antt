@@ -1,22 +1,15 @@
 -- What a config describes, and what is judged of it before its guest is.
-use Rattle.std.specs.Prelude.{ℕ, ◌==◌, nat_lt, not, if◌then◌else◌, List, Option, Some, None, map, max, min}
-use Rattle.std.specs.List.{prefix_len, take_while}
+use Rattle.std.specs.Prelude.{ℕ, ◌==◌, nat_lt, not, if◌then◌else◌, List, map}
+use Rattle.std.specs.List.{prefix_len}
 use Rattle.guest_bytes.specs.declared.word_loan.WordLoan.{WordLoan}
-use Rattle.guest_memory.specs.declared.spec.RegionSpec.{RegionSpec}
+use Rattle.c_values.specs.declared.slot.Device.{Device}
+use Rattle.c_values.specs.declared.slot.Slot.{Slot}
+use Rattle.c_values.specs.Limits.{budget_by}
+use Rattle.c_values.specs.Slot.{depth_of, regions_of, slot_size}
 use Rattle.racing_hosted_disk.specs.declared.look.LookLimits.{LookLimits}
 use Rattle.racing_guest.specs.declared.spec.GuestSpec.{GuestSpec}
 use Rattle.racing_session.specs.declared.spec.RacingSpec.{RacingSpec}
 use Rattle.racing_ffi.specs.declared.config.GuestConfig.{GuestConfig}
-use Rattle.racing_ffi.specs.declared.slot.Slot.{Slot}
-use Rattle.racing_ffi.specs.declared.slot.Device.{Device}
-
--- the regions that C describes: those before the first that has no bytes
-abbrev pub regions_of : List RegionSpec → List RegionSpec
-regions_of = take_while (λ region. nat_lt 0 region.len)
-
--- How many operations of a disk may be in flight. 0 is 1; a depth that is too large is so as it is told, too.
-abbrev pub depth_of : ℕ → ℕ
-depth_of depth = min (max depth 1) 255
 
 -- the guest's devices
 abbrev pub guest_of : Slot → GuestSpec
@@ -29,14 +22,10 @@ guest_of slot = record {
   rows = slot.rows;
 }
 
--- the limit that a number says: 0 is none
-abbrev pub limit_of : ℕ → Option ℕ
-limit_of limit = if limit == 0 then None else Some limit
-
 -- how much one service may do
 abbrev pub limits_of : GuestConfig → LookLimits
 limits_of config = record {
-  budget = record { chains = limit_of config.chains; bytes = limit_of config.bytes };
+  budget = budget_by config.chains config.bytes;
   rounds = 16;
   looks = 65;
 }
@@ -57,10 +46,7 @@ spec_of config = spec_by config.slot.now (limits_of config)
 abbrev pub lent_words : List WordLoan → List (List (Unit {0}))
 lent_words loans = map (λ loan. loan.items) loans
 
--- how many bytes a slot and a config have that this version describes
-abbrev pub slot_size : ℕ
-slot_size = 528
-
+-- how many bytes a config has that this version describes
 abbrev pub config_size : ℕ
 config_size = 48
 

@@ -1,6 +1,7 @@
 -- What comes of making a guest.
-use Rattle.std.specs.Prelude.{◌≡◌, ◌≢◌, ◌⊎◌, ℕ, ◌==◌, ◌||◌, IsTrue, List, [], All, Some, None, drop, length, take}
+use Rattle.std.specs.Prelude.{◌≡◌, ◌≢◌, ◌⊎◌, ℕ, ◌==◌, ◌||◌, IsTrue, List, [], All, Some, None}
 use Rattle.guest_bytes.specs.declared.word_loan.WordLoan.{WordLoan}
+use Rattle.c_values.specs.Loans.{TakesFirst}
 use Rattle.racing_session.specs.declared.fault.RacingFault.{RacingFault}
 use Rattle.racing_session.specs.Judging.{IsAccepted, IsRefusedFor}
 use Rattle.racing_session.specs.Session.{new_session}
@@ -31,12 +32,9 @@ pub record RefusesFor (config : GuestConfig) (code : ℕ) : Type 0 where
 abbrev pub Refuses : GuestConfig → ℕ → Type 0
 Refuses config code = ((judged config ≢ 0) × (code ≡ judged config)) ⊎ RefusesFor config code
 
--- the first of the loans are taken, which may be none or all: they are empty, and the others as they were
-pub record TakesFront (old new : List WordLoan) : Type 0 where
-  pub taken : ℕ
-  pub empty : All (λ loan. loan.items ≡ []) (take taken new)
-  pub others : drop taken new ≡ drop taken old
-  pub same : length new ≡ length old
+-- the first of the loans are taken, which may be none or all
+abbrev pub TakesFront : List WordLoan → List WordLoan → Type 0
+TakesFront = TakesFirst (λ loan. loan.items ≡ [])
 
 -- What is left of the loans: with a guest all are empty, after a refusal of the handle or of what is judged first all are as they
 -- were, and after another the first of them are taken.

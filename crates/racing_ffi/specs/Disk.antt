@@ -1,40 +1,14 @@
 -- What the disk is asked for, as C has it.
-use Rattle.std.specs.Prelude.{◌≡◌, ℕ, ◌≤◌, List, [], ◌∷◌, Option, Some, None, get_or, length}
+use Rattle.std.specs.Prelude.{◌≡◌, ℕ, ◌≤◌, List, Option, Some, None, get_or, length}
 use Rattle.guest_memory.specs.Memory.{Memory}
 use Rattle.chain.specs.declared.segment.Segment.{Segment}
 use Rattle.block_device.specs.declared.operation.Operation as asked
-use Rattle.block_device.specs.declared.operation.OperationKind.{OperationKind}
-use Rattle.block_device.specs.declared.operation.OperationKind.TheVariants as kind
 use Rattle.block_device.specs.Operation.{LiesInside}
+use Rattle.c_values.specs.declared.operation.Operation.{Operation}
+use Rattle.c_values.specs.declared.operation.Run.{Run}
+use Rattle.c_values.specs.Operation.{told_operation, told_runs}
 use Rattle.racing_hosted_disk.specs.Tags.{operation_in, runs_in}
 use Rattle.racing_session.specs.Session.{IsMemoryOf, RacingSession, in_flight}
-use Rattle.racing_ffi.specs.declared.operation.Operation.{Operation}
-use Rattle.racing_ffi.specs.declared.operation.Run.{Run}
-
-abbrev pub kind_code : OperationKind → ℕ
-kind_code kind.In = 0
-kind_code kind.Out = 1
-kind_code kind.Flush = 2
-kind_code kind.Zeroes = 3
-
--- an operation with its runs
-abbrev pub told_operation : asked.Operation → List Segment → Operation
-told_operation operation runs = record {
-  kind = kind_code operation.kind;
-  runs = length runs;
-  start = operation.start;
-  len = operation.len;
-  stable = operation.stable;
-}
-
-abbrev pub told_run : Segment → Run
-told_run run = record { at = run.addr; len = run.len }
-
--- the first runs, as many as find room, and what stood in the room behind them
-abbrev pub told_runs : List Segment → List Run → List Run
-told_runs [] room = room
-told_runs (run ∷ runs) [] = []
-told_runs (run ∷ runs) (place ∷ room) = told_run run ∷ told_runs runs room
 
 -- what is in flight with a tag, and where its bytes lie
 abbrev pub operation_of : ℕ → RacingSession → Option asked.Operation

@@ -5,9 +5,10 @@ ghost use Rattle.racing_session.specs.Judging.{HasLimits};
 ghost use Rattle.racing_ffi.specs.Config.{judged, limits_of, spec_of};
 
 use crate::codes::BAD_SIZE;
-use crate::slot::Slot;
+use crate::slot::{judged, spec};
+use c_values::{Slot, budget};
 use guest_bytes::WordLoan;
-use racing_session::{Budget, LookLimits, RacingSpec};
+use racing_session::{LookLimits, RacingSpec};
 
 /// How many bytes a config of this version has.
 const CONFIG_SIZE: usize = size_of::<GuestConfig>();
@@ -42,7 +43,7 @@ impl GuestConfig<'_> {
         if self.size != CONFIG_SIZE {
             return BAD_SIZE;
         }
-        self.slot.judged()
+        judged(self.slot)
     }
 
     /// The guest.
@@ -50,7 +51,7 @@ impl GuestConfig<'_> {
         ensures spec { result ≡ spec_of self.now }
         ensures lasts { HasLimits result.limits }
     {
-        self.slot.spec(self.limits())
+        spec(self.slot, self.limits())
     }
 
     // How much one service may do.
@@ -59,18 +60,7 @@ impl GuestConfig<'_> {
         ensures lasts { HasLimits result }
     {
         LookLimits {
-            budget: Budget {
-                chains: if self.chains == 0 {
-                    None
-                } else {
-                    Some(self.chains)
-                },
-                bytes: if self.bytes == 0 {
-                    None
-                } else {
-                    Some(self.bytes)
-                },
-            },
+            budget: budget(self.chains, self.bytes),
             rounds: ROUNDS,
             looks: LOOKS,
         }

@@ -2,15 +2,16 @@
 
 ghost use Rattle.std.specs.Prelude.{◌≡◌, ◌≢◌, None, IfNone, IfSome};
 ghost use Rattle.block_device.specs.declared.operation.HostEvent.{HostEvent};
+ghost use Rattle.c_values.specs.Operation.{verdict_of};
 ghost use Rattle.racing_session.specs.Session.{waits_of};
 ghost use Rattle.racing_ffi.specs.Disk.{IsInFlight, operation_of};
-ghost use Rattle.racing_ffi.specs.Calls.{Calls, HasInFlight, IsAskedFor, IsAtRest, Says, Tells, pending_by, verdict_of};
+ghost use Rattle.racing_ffi.specs.Calls.{Calls, HasInFlight, IsAskedFor, IsAtRest, Says, Tells, pending_by};
 
 use crate::codes::{DONE, IDLE, of_answer};
 use crate::handle::{GuestHandle, session_of};
-use crate::operation::{Operation, Run, tell_runs};
 use crate::pending::Pending;
-use racing_session::{HostEvent, RacingSession, Segment, Told, Verdict};
+use c_values::{Operation, Run, tell_runs, verdict};
+use racing_session::{HostEvent, RacingSession, Segment, Told};
 
 /// Tells which tags of a guest's disk are in flight: bit n is set where tag n is.
 #[unsafe(no_mangle)]
@@ -109,15 +110,4 @@ fn say(session: &mut RacingSession, said: HostEvent, pending: &mut Pending) -> u
     let Told { answer, waits } = session.say(said);
     *pending = Pending::of(waits);
     of_answer(answer)
-}
-
-// What came of an operation.
-fn verdict(failed: bool) -> Verdict
-    ensures { result ≡ verdict_of failed }
-{
-    if failed {
-        Verdict::Failed
-    } else {
-        Verdict::Done
-    }
 }

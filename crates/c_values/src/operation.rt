@@ -1,9 +1,10 @@
 //! What a disk is asked for, as C has it.
 
 ghost use Rattle.std.specs.Prelude.{◌≡◌, ◌≤◌, length};
-ghost use Rattle.racing_ffi.specs.Disk.{kind_code, told_operation, told_run, told_runs};
+ghost use Rattle.c_values.specs.Operation.{kind_code, told_operation, told_run, told_runs, verdict_of};
 
-use racing_session::{OperationKind, Segment};
+use block_device::{OperationKind, Verdict};
+use chain::Segment;
 
 /// One operation on a guest's disk.
 #[derive(Clone, Copy, Debug, PartialEq, Eq)]
@@ -31,7 +32,7 @@ pub struct Run {
 
 impl Operation {
     /// An operation with its runs, of which there are 256 at most.
-    pub(crate) fn of(operation: racing_session::Operation, runs: &[Segment]) -> Operation
+    pub fn of(operation: block_device::Operation, runs: &[Segment]) -> Operation
         requires { length runs.now ≤ 256 }
         ensures { result ≡ told_operation operation runs.now }
     {
@@ -70,7 +71,7 @@ fn number_of(kind: OperationKind) -> u32
 }
 
 /// Tells the first of these runs, as many as find room.
-pub(crate) fn tell_runs(runs: &[Segment], room: &mut [Run])
+pub fn tell_runs(runs: &[Segment], room: &mut [Run])
     ensures { room.new ≡ told_runs runs.now room.old }
 {
     for place in 0..runs.len() {
@@ -78,5 +79,16 @@ pub(crate) fn tell_runs(runs: &[Segment], room: &mut [Run])
             return;
         }
         room[place] = Run::of(runs[place]);
+    }
+}
+
+/// What came of an operation.
+pub fn verdict(failed: bool) -> Verdict
+    ensures { result ≡ verdict_of failed }
+{
+    if failed {
+        Verdict::Failed
+    } else {
+        Verdict::Done
     }
 }

@@ -1,13 +1,12 @@
 -- Loans that are taken one by one.
-use Rattle.std.proofs.Common.{◌≡◌, ℕ, suc, ◌<◌, ◌+◌, List, [], ◌∷◌, ◌++◌, All, length, map, take, drop, set, get_or, refl, sym, ap, ◌∙◌, subst, arith}
-use Rattle.std.proofs.lemmas.List.{drop-drop, drop-set-lt, get_or-drop, map-append}
+use Rattle.std.proofs.Common.{◌≡◌, ℕ, suc, ◌<◌, ◌≤◌, ◌+◌, List, [], ◌∷◌, ◌++◌, All, length, map, take, drop, set, get_or, refl, sym, ap, ◌∙◌, subst, arith}
+use Rattle.std.proofs.lemmas.List.{drop-drop, drop-set-lt, get_or-drop, length-set, map-append, take_all}
 use Rattle.std.proofs.lemmas.List.Elements.{All-append, All-cons, All-nil}
 use Rattle.std.proofs.Math.Seq.{take-suc, take-suc-set}
-use Rattle.guest_bytes.specs.declared.word_loan.WordLoan.{WordLoan}
-use Rattle.racing_ffi.specs.Create.{TakesFront}
+use Rattle.c_values.specs.Loans.{TakesFirst}
 
 -- what holds of those that are written holds of one more
-pub one_more : {X : Type 0} (P : X → Type 0) (xs : List X) (i : ℕ) (x : X) → i < length xs → All P (take i xs)
+one_more : {X : Type 0} (P : X → Type 0) (xs : List X) (i : ℕ) (x : X) → i < length xs → All P (take i xs)
     → P x → All P (take (i + 1) (set xs i x))
 one_more P xs i x few all px =
     let next : i + 1 ≡ suc i = omega arith in
@@ -15,7 +14,7 @@ one_more P xs i x few all px =
     (All-append P (take i xs) (x ∷ []) all (All-cons P x [] px (All-nil P)))
 
 -- those behind are as they were
-pub behind_same : {X : Type 0} (xs ys : List X) (i : ℕ) (x : X) → drop i xs ≡ drop i ys
+behind_same : {X : Type 0} (xs ys : List X) (i : ℕ) (x : X) → drop i xs ≡ drop i ys
     → drop (i + 1) (set xs i x) ≡ drop (i + 1) ys
 behind_same xs ys i x same = drop-set-lt (i + 1) xs i x (omega arith) ∙ sym (drop-drop 1 i xs)
     ∙ ap (drop 1) same ∙ drop-drop 1 i ys
@@ -37,14 +36,33 @@ listed f ys i x so_far few is same =
     ∙ ap (λ y. map f (take i ys ++ (y ∷ []))) is
     ∙ sym (ap (map f) (ap (λ n. take n ys) next ∙ take-suc ys i x few))
 
+-- the loans before a place are taken, and those from it on are as they were
+abbrev pub AreTakenTo : {X : Type 0} → (X → Type 0) → ℕ → List X → List X → Type 0
+AreTakenTo IsEmpty place old loans =
+    (drop place loans ≡ drop place old) × (length loans ≡ length old) × All IsEmpty (take place loans)
+
+module _ {X : Type 0} (IsEmpty : X → Type 0) (old loans : List X) where
+  -- one more is taken
+  pub taken_next : (place : ℕ) (x : X) → place < length old → AreTakenTo IsEmpty place old loans → IsEmpty x
+      → AreTakenTo IsEmpty (place + 1) old (set loans place x)
+  taken_next place x few before empty = (
+    behind_same loans old place x before.0,
+    length-set loans place x ∙ before.1,
+    one_more IsEmpty loans place x (omega (arith, before.1, few)) before.2 empty,
+  )
+
+  -- the first are taken
+  pub first_taken : (place : ℕ) → AreTakenTo IsEmpty place old loans → TakesFirst IsEmpty old loans
+  first_taken place before = record { taken = place; empty = before.2; others = before.0; same = before.1 }
+
+  -- all are
+  pub all_taken : (place : ℕ) → AreTakenTo IsEmpty place old loans → length old ≤ place → All IsEmpty loans
+  all_taken place before enough =
+      subst (All IsEmpty) (take_all place loans (omega (arith, before.1, enough))) before.2
+
 -- none is taken
-pub none_taken : (loans : List WordLoan) → TakesFront loans loans
-none_taken loans = record {
-  taken = 0;
-  empty = All-nil (λ (loan : WordLoan). loan.items ≡ []);
-  others = refl;
-  same = refl;
-}
+pub none_taken : {X : Type 0} (IsEmpty : X → Type 0) (loans : List X) → TakesFirst IsEmpty loans loans
+none_taken IsEmpty loans = record { taken = 0; empty = All-nil IsEmpty; others = refl; same = refl }
 
 -- rows of as many words are the same: nothing is known of a word
 pub same_words : (xs ys : List (Unit {0})) → length xs ≡ length ys → xs ≡ ys

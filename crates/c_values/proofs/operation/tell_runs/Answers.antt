@@ -1,7 +1,7 @@
 use Rattle.std.proofs.Common.{◌<◌, ◌≤◌, inr, ◌∙◌, arith, length}
 use Rattle.std.proofs.lemmas.Option.{slice_get-get_or}
-use Rattle.racing_ffi.proofs.Runs.{all_told, behind, one_told}
-use Rattle.racing_ffi.proofs.operation.tell_runs.Goals as goal
+use Rattle.c_values.proofs.Runs.{all_told, behind, one_told}
+use Rattle.c_values.proofs.operation.tell_runs.Goals as goal
 
 pub returns-then-place-room : goal.returns-then-place-room
 returns-then-place-room c =

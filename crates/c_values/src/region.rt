@@ -2,12 +2,12 @@
 
 ghost use Rattle.std.specs.Prelude.{◌≡◌, ◌≤◌, nat_lt};
 ghost use Rattle.std.specs.List.{prefix_len};
-ghost use Rattle.racing_ffi.specs.Config.{regions_of};
+ghost use Rattle.c_values.specs.Slot.{regions_of};
 
 use guest_memory::{MOST_REGIONS, RegionSpec, Regions};
 
 /// The regions before the first that has no bytes.
-pub(crate) fn regions(places: &[RegionSpec; MOST_REGIONS]) -> Regions
+pub fn regions(places: &[RegionSpec; MOST_REGIONS]) -> Regions
     ensures { result ≡ regions_of places.now }
 {
     Regions::new(&places[..count(places)]).unwrap()

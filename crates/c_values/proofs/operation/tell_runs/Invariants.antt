@@ -1,6 +1,6 @@
 use Rattle.std.proofs.Common.{◌≡◌, take}
-use Rattle.racing_ffi.specs.Disk.{told_runs}
-use Rattle.racing_ffi.proofs.operation.tell_runs.Given as goal
+use Rattle.c_values.specs.Operation.{told_runs}
+use Rattle.c_values.proofs.operation.tell_runs.Given as goal
 
 -- the runs before this place are told
 abbrev pub invariant-loop-place : goal.invariant-loop-place

@@ -1,6 +1,6 @@
 use Rattle.std.proofs.Common.{take, ◌≡◌, ℕ, subst, List, Option, IfSome}
 use Rattle.guest_memory.specs.declared.spec.RegionSpec.{RegionSpec}
-use Rattle.racing_ffi.proofs.region.regions.Goals as goal
+use Rattle.c_values.proofs.region.regions.Goals as goal
 
 pub returns : goal.returns
 returns c =

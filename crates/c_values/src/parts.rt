@@ -7,8 +7,8 @@ use std::alloc::Allocator;
 use std::marker::Model;
 
 pub struct Parts<T, A: Allocator> {
-    pub(super) ptr: *mut T,
-    pub(super) alloc: A,
+    pub ptr: *mut T,
+    pub alloc: A,
     pub ghost value: { T },
 }
 
@@ -17,7 +17,7 @@ impl<T, A: Allocator> Model for Parts<T, A> {
 }
 
 impl<T, A: Allocator> Parts<T, A> {
-    pub(super) fn of(b: Box<T, A>) -> Parts<T, A>
+    pub fn of(b: Box<T, A>) -> Parts<T, A>
     where
         T: Drop,
         ensures { result.value ≡ b.value }
@@ -26,7 +26,7 @@ impl<T, A: Allocator> Parts<T, A> {
         Parts { ptr, alloc }
     }
 
-    pub(super) fn into_box(self) -> Box<T, A>
+    pub fn into_box(self) -> Box<T, A>
         ensures { result.value ≡ self.value }
     {
         let Parts { ptr, alloc } = self;
@@ -34,7 +34,7 @@ impl<T, A: Allocator> Parts<T, A> {
     }
 
     /// Drops the value, and gives its memory back. No body can leave that out: a `Parts` can't be forgotten.
-    pub(super) fn end(self)
+    pub fn end(self)
     where
         T: Drop,
     {

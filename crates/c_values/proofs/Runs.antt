@@ -3,8 +3,8 @@ use Rattle.std.proofs.Common.{◌≡◌, ◌<◌, ◌≤◌, ◌⊎◌, inl, inr
 use Rattle.std.specs.List.{slice_get}
 use Rattle.std.proofs.lemmas.Option.{same_Some}
 use Rattle.chain.specs.declared.segment.Segment.{Segment}
-use Rattle.racing_ffi.specs.declared.operation.Run.{Run}
-use Rattle.racing_ffi.specs.Disk.{told_run, told_runs}
+use Rattle.c_values.specs.declared.operation.Run.{Run}
+use Rattle.c_values.specs.Operation.{told_run, told_runs}
 
 -- one more is told
 pub one_told : (place : ℕ) (runs : List Segment) (room : List Run) (run : Segment) → place < length room

@@ -36,16 +36,16 @@ use Rattle.std.proofs.alloc.Calls.{token, handle_tells, Goes-blank}
 use Rattle.std_alloc.specs.Box.Ownership.{box_owns}
 use Rattle.std_alloc.proofs.BoxSteps.Form.{Bx, D, τ, R, P, B, word, box_typed}
 use Rattle.std_alloc.proofs.BoxSteps.Steps.{box_out, box_in}
-use Rattle.racing_ffi.proofs.AsBox.{box_of}
+use Rattle.c_values.proofs.AsBox.{box_of}
 use Rattle.guest_bytes.proofs.Walking.{called, walked_through}
-use Rattle.racing_ffi.specs.contracts.handle.parts.Parts as parts
+use Rattle.c_values.specs.contracts.parts.Parts as parts
 use Rattle.std_alloc.specs.contracts.boxed.Box.into_raw_with_allocator as Ra
 use Rattle.std_alloc.proofs.boxed.Box.into_raw_with_allocator.Symbol as raw_sym
 use Rattle.std_alloc.proofs.boxed.Box.into_raw_with_allocator.Met as raw_met
-use Rattle.racing_ffi.specs.contracts.handle.parts.Parts.of as F
-use Rattle.racing_ffi.specs.contracts.handle.parts.Parts.of.Key.{name as #self}
-use Rattle.racing_ffi.proofs.handle.parts.Parts.of.Statement as stated
-use Rattle.racing_ffi.proofs.handle.parts.Parts.of.Code as code
+use Rattle.c_values.specs.contracts.parts.Parts.of as F
+use Rattle.c_values.specs.contracts.parts.Parts.of.Key.{name as #self}
+use Rattle.c_values.proofs.parts.Parts.of.Statement as stated
+use Rattle.c_values.proofs.parts.Parts.of.Code as code
 
 module _ (E : Bx) (dx : Dict) where
   abbrev args : Args

@@ -1,0 +1,26 @@
+//! What both C libraries take, hold and tell: a board's, and that of guests that run on.
+//!
+//! `slot` is a guest as C describes it, `region` the regions of its memory and `limits` how much one call may serve. `operation` is what a
+//! disk is asked for, and `fault` why a window asks for a reset. `codes` has the numbers of answers. `parts` is a box with its fields in sight, of
+//! which a handle is made; the walks through the functions of each handle stand in `proofs`.
+#![tactic(auto)]
+
+mod codes;
+mod fault;
+mod limits;
+mod operation;
+mod parts;
+mod region;
+mod slot;
+
+pub use codes::{
+    BAD_DEPTH, BAD_DEVICE, BAD_LOAN, BAD_MEMORY_BASE, BAD_MEMORY_SIZE, BAD_OUTLET, BAD_SIZE,
+    BAD_WINDOW, BUSY, DONE, EXTENT_OUTSIDE, HAS_BOARD, IDLE, IO, MORE, NO_BOARD, NO_MEMORY,
+    NO_REGIONS, NO_ROOM, REGIONS_NOT_APART, of_memory_fault,
+};
+pub use fault::Fault;
+pub use limits::budget;
+pub use operation::{Operation, Run, tell_runs, verdict};
+pub use parts::Parts;
+pub use region::regions;
+pub use slot::{Device, MOST_DEVICES, NO_DEVICE, SLOT_SIZE, Slot, depth};
