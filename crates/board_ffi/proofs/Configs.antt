@@ -21,7 +21,8 @@ use Rattle.session.specs.Refusing.{AreDevices, AreOutlets, IsLentRefusedFor, IsR
 use Rattle.session.proofs.Refusals.{lent_refused, only_device, only_image, only_outlet, only_spent}
 use Rattle.board_ffi.specs.declared.config.Config.{Config}
 use Rattle.board_ffi.specs.declared.config.ToldConfig.{ToldConfig}
-use Rattle.board_ffi.specs.Config.{AreLent, AreSized, Describes, IsGood, IsRefused, IsSized, IsVerdict, RefusedBy, Verdict, OtherSize, Good, Bad, budget_of, config_size, guests_of, lent_bytes, lens_of, limit_of, new_by, told_lens, verdict_code}
+use Rattle.c_values.specs.Limits.{limit_of}
+use Rattle.board_ffi.specs.Config.{AreLent, AreSized, Describes, IsGood, IsRefused, IsSized, IsVerdict, RefusedBy, Verdict, OtherSize, Good, Bad, budget_of, config_size, guests_of, lent_bytes, lens_of, new_by, told_lens, verdict_code}
 use Rattle.board_ffi.specs.Codes.{board_code, fault_code}
 use Rattle.board_ffi.specs.Create.{IsRefusal}
 

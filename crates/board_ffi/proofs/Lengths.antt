@@ -6,7 +6,8 @@ use Rattle.board.specs.Lent.{all_regions}
 use Rattle.session.specs.Session.{slots_of}
 use Rattle.session.proofs.Loans.{lens}
 use Rattle.board_ffi.specs.declared.slot.Slot.{Slot}
-use Rattle.board_ffi.specs.Config.{guests_of, region_lens, regions_of}
+use Rattle.c_values.specs.Slot.{regions_of}
+use Rattle.board_ffi.specs.Config.{guests_of, region_lens}
 
 -- how many are wanted for the regions of these slots
 abbrev pub wanted : List Slot → List ℕ

@@ -1,9 +1,6 @@
-pub mod AsBox
 pub mod Configs
-pub mod HandleSteps
+pub mod Holding
 pub mod Lengths
-pub mod OneByOne
 pub mod Outlets
-pub mod Runs
 pub mod Telling
 pub mod Windows

@@ -1,7 +1,6 @@
 -- The number that stands for each answer.
 use Rattle.std.specs.Prelude.{◌≡◌, ◌⊎◌, ℕ, ◌==◌, ◌||◌, nat_lt, Bool, List, [], ◌∷◌, if◌then◌else◌, Result, Ok, Err}
-use Rattle.guest_memory.specs.declared.fault.MemoryFault.{MemoryFault}
-use Rattle.guest_memory.specs.declared.fault.MemoryFault.TheVariants as memory
+use Rattle.c_values.specs.Codes.{memory_code}
 use Rattle.sector_cache.specs.declared.fault.CacheFault.TheVariants.{BadCapacity}
 use Rattle.sector_cache.specs.declared.fault.CacheFault.TheVariants as cache
 use Rattle.board.specs.declared.reply.Reply.{Reply}
@@ -112,14 +111,6 @@ restore_refusal_code (restore.Fault why) = restore_fault_code why
 abbrev pub restore_code : Result (Unit {0}) RestoreRefusal → ℕ
 restore_code (Ok done) = 0
 restore_code (Err why) = restore_refusal_code why
-
--- a guest's memory that was refused
-abbrev pub memory_code : MemoryFault → ℕ
-memory_code memory.NoRegions = 27
-memory_code memory.BadSize = 10
-memory_code memory.BadBase = 11
-memory_code memory.NotApart = 28
-memory_code memory.NoMemory = 5
 
 -- a slot that was refused
 abbrev pub slot_fault_code : SlotFault → ℕ

@@ -1,10 +1,10 @@
 -- What a config describes, and what is wrong with it.
-use Rattle.std.specs.Prelude.{◌≡◌, ◌≢◌, ◌⊎◌, ℕ, ◌/◌, ◌%◌, ◌==◌, nat_lt, if◌then◌else◌, Bool, List, [], ◌∷◌, Option, Some, None, All, length, map, max, min}
-use Rattle.std.specs.List.{take_while}
+use Rattle.std.specs.Prelude.{◌≡◌, ◌≢◌, ◌⊎◌, ℕ, ◌/◌, ◌%◌, ◌==◌, if◌then◌else◌, Bool, List, [], ◌∷◌, Option, Some, None, All, length, map}
 use Rattle.chain.specs.declared.budget.Budget.{Budget}
 use Rattle.guest_bytes.specs.declared.loan.Loan.{Loan}
-use Rattle.guest_memory.specs.declared.spec.RegionSpec.{RegionSpec}
 use Rattle.device_list.specs.declared.spec.DeviceSpec.{DeviceSpec}
+use Rattle.c_values.specs.Limits.{budget_by}
+use Rattle.c_values.specs.Slot.{depth_of, regions_of, slot_size}
 use Rattle.board.specs.declared.spec.Backing.{Backing}
 use Rattle.board.specs.Fault.{IsAccepted}
 use Rattle.board.specs.Lent.{all_regions}
@@ -18,14 +18,6 @@ use Rattle.board_ffi.specs.declared.config.ToldLoan.{ToldLoan}
 use Rattle.board_ffi.specs.declared.device.Device.{Device}
 use Rattle.board_ffi.specs.declared.slot.Slot.{Slot}
 use Rattle.board_ffi.specs.Codes.{fault_code}
-
--- the regions that C describes: those before the first that has no bytes
-abbrev pub regions_of : List RegionSpec → List RegionSpec
-regions_of = take_while (λ region. nat_lt 0 region.len)
-
--- How many operations of a disk may be in flight. 0 is 1; a depth that is too large for the board is so as it is told, too.
-abbrev pub depth_of : ℕ → ℕ
-depth_of depth = min (max depth 1) 255
 
 -- who has the disk of a slot
 abbrev pub backing_of : Bool → ℕ → Backing
@@ -61,10 +53,7 @@ guest_of slot = record {
   devices = map device_of slot.devices;
 }
 
--- how many bytes a slot and a config have that this version describes
-abbrev pub slot_size : ℕ
-slot_size = 528
-
+-- how many bytes a config has that this version describes
 abbrev pub config_size : ℕ
 config_size = 72
 
@@ -79,13 +68,9 @@ IsSized config = (config.size ≡ config_size) × AreSized config.slots.now
 abbrev pub guests_of : List Slot → List GuestSpec
 guests_of slots = map guest_of slots
 
--- the limit that a number says: 0 is none
-abbrev pub limit_of : ℕ → Option ℕ
-limit_of limit = if limit == 0 then None else Some limit
-
 -- how much one call may serve
 abbrev pub budget_of : Config → Budget
-budget_of config = record { chains = limit_of config.chains; bytes = limit_of config.bytes }
+budget_of config = budget_by config.chains config.bytes
 
 -- the bytes of each loan
 abbrev pub lent_bytes : List Loan → List (List ℕ)

@@ -1,6 +1,7 @@
 -- What comes of making a board.
-use Rattle.std.specs.Prelude.{◌≡◌, ◌≢◌, ◌⊎◌, ℕ, List, [], All, Some, None, drop, length, take}
+use Rattle.std.specs.Prelude.{◌≡◌, ◌≢◌, ◌⊎◌, ℕ, List, [], All, Some, None}
 use Rattle.guest_bytes.specs.declared.loan.Loan.{Loan}
+use Rattle.c_values.specs.Loans.{TakesFirst}
 use Rattle.session.specs.declared.fault.SessionFault.{SessionFault}
 use Rattle.board_ffi.specs.declared.config.Config.{Config}
 use Rattle.board_ffi.specs.Codes.{fault_code}
@@ -23,12 +24,9 @@ pub record Refuses (config : Config) (code : ℕ) : Type 0 where
   pub code_is : code ≡ fault_code why
   pub refused : IsRefusal config why
 
--- the first of the loans are taken, which may be none or all: they are empty, and the others as they were
-pub record TakesFront (old new : List Loan) : Type 0 where
-  pub taken : ℕ
-  pub empty : All (λ loan. loan.items ≡ []) (take taken new)
-  pub others : drop taken new ≡ drop taken old
-  pub same : length new ≡ length old
+-- the first of the loans are taken, which may be none or all
+abbrev pub TakesFront : List Loan → List Loan → Type 0
+TakesFront = TakesFirst (λ loan. loan.items ≡ [])
 
 -- What is left of the loans: with a board all are empty, after a refusal of the handle or of a size all are as
 -- they were, and after another the first of them are taken.

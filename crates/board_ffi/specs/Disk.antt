@@ -1,20 +1,19 @@
 -- What a disk that the host serves is asked for: a slot's own, or one of its further devices.
-use Rattle.std.specs.Prelude.{◌≡◌, ℕ, List, [], ◌∷◌, Option, Some, None, get_or, if◌then◌else◌, is_some, length}
+use Rattle.std.specs.Prelude.{◌≡◌, ℕ, List, Option, Some, None, get_or, if◌then◌else◌, is_some, length}
 use Rattle.std.specs.List.{slice_get}
 use Rattle.std.specs.Option.{option_and_then, option_map_or}
 use Rattle.chain.specs.declared.segment.Segment.{Segment}
 use Rattle.block_device.specs.declared.operation.Operation as asked
-use Rattle.block_device.specs.declared.operation.OperationKind.{OperationKind}
-use Rattle.block_device.specs.declared.operation.OperationKind.TheVariants as kind
 use Rattle.block_device.specs.Operation.{LiesInside}
 use Rattle.block_device.specs.Flights.{InFlight}
+use Rattle.c_values.specs.declared.operation.Operation.{Operation}
+use Rattle.c_values.specs.declared.operation.Run.{Run}
+use Rattle.c_values.specs.Operation.{told_operation, told_runs}
 use Rattle.device_list.specs.List.{disk_at}
 use Rattle.board.specs.Slot.{BoardSlot, sectors_in}
 use Rattle.session.specs.Disks.{disk_in_flight_at, hosted_disk_at}
 use Rattle.session.specs.Operations.{flight_at, in_flight_at}
 use Rattle.session.specs.Session.{SessionState}
-use Rattle.board_ffi.specs.declared.operation.Operation.{Operation}
-use Rattle.board_ffi.specs.declared.operation.Run.{Run}
 use Rattle.board_ffi.specs.declared.window.DiskWindow.{DiskWindow}
 use Rattle.board_ffi.specs.declared.window.DiskWindow.TheVariants.{Own, Further}
 use Rattle.board_ffi.specs.Codes.{code_at}
@@ -42,31 +41,6 @@ abbrev pub rest_code : ℕ → DiskWindow → List BoardSlot → ℕ
 rest_code slot disk slots = code_at slot (length slots) (if is_some (in_flight_of slot disk slots) then 21 else 6)
 
 -- ---- what it is asked for
-
-abbrev pub kind_code : OperationKind → ℕ
-kind_code kind.In = 0
-kind_code kind.Out = 1
-kind_code kind.Flush = 2
-kind_code kind.Zeroes = 3
-
--- an operation with its runs, as C has it
-abbrev pub told_operation : asked.Operation → List Segment → Operation
-told_operation operation runs = record {
-  kind = kind_code operation.kind;
-  runs = length runs;
-  start = operation.start;
-  len = operation.len;
-  stable = operation.stable;
-}
-
-abbrev pub told_run : Segment → Run
-told_run run = record { at = run.addr; len = run.len }
-
--- the first runs, as many as find room, and what stood in the room behind them
-abbrev pub told_runs : List Segment → List Run → List Run
-told_runs [] room = room
-told_runs (run ∷ runs) [] = []
-told_runs (run ∷ runs) (place ∷ room) = told_run run ∷ told_runs runs room
 
 -- these tags are in flight of a slot's disk, and nothing changes
 pub record HasInFlight (slot tags : ℕ) (disk : DiskWindow) (old new : SessionState) : Type 0 where

@@ -4,12 +4,11 @@ use Rattle.std.specs.List.{slice_get}
 use Rattle.std.specs.Global.{Global}
 use Rattle.guest_memory.specs.Memory.{Inside, Memory}
 use Rattle.guest_memory.specs.Pages.{bits_of}
-use Rattle.block_device.specs.declared.operation.Verdict.{Verdict}
-use Rattle.block_device.specs.declared.operation.Verdict.TheVariants as verdict
 use Rattle.board.specs.declared.event.DeviceEvent.{DeviceEvent}
 use Rattle.board.specs.declared.event.EventKind.{EventKind}
 use Rattle.block_device.specs.declared.operation.HostEvent.{HostEvent}
 use Rattle.block_device.specs.declared.operation.HostEvent.TheVariants as host
+use Rattle.c_values.specs.Operation.{verdict_of}
 use Rattle.board.specs.declared.reply.Reply.{Reply}
 use Rattle.board.specs.declared.reply.Reply.TheVariants as reply
 use Rattle.board.specs.declared.saved.RestoreFault.{RestoreFault}
@@ -82,10 +81,6 @@ HasAskedBy said slot disk old new =
 abbrev pub HasNothingFor : HostEvent → ℕ → DiskWindow → List BoardSlot → Type 0
 HasNothingFor said slot Own slots = HasNothing slot said slots
 HasNothingFor said slot (Further n) slots = DiskHasNothing slot n said slots
-
--- what came of an operation
-abbrev pub verdict_of : Bool → Verdict
-verdict_of failed = if failed then verdict.Failed else verdict.Done
 
 -- What is in flight of a slot's disk with this tag is completed. Where nothing is, nothing changes.
 pub record Completes (slot tag : ℕ) (failed : Bool) (code : ℕ) (disk : DiskWindow) (old new : SessionState) : Type 0 where

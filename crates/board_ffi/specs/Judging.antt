@@ -9,7 +9,8 @@ use Rattle.session.specs.Refusing.{has_bad_device}
 use Rattle.board_ffi.specs.declared.config.Config.{Config}
 use Rattle.board_ffi.specs.declared.config.ToldConfig.{ToldConfig}
 use Rattle.board_ffi.specs.declared.slot.Slot.{Slot}
-use Rattle.board_ffi.specs.Config.{Describes, IsVerdict, Verdict, Bad, config_size, guest_of, OtherSize, slot_size, verdict_code}
+use Rattle.c_values.specs.Slot.{slot_size}
+use Rattle.board_ffi.specs.Config.{Describes, IsVerdict, Verdict, Bad, config_size, guest_of, OtherSize, verdict_code}
 
 -- how many bytes of a console's output may wait at most
 abbrev pub most_waiting : ℕ

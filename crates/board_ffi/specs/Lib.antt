@@ -4,7 +4,6 @@ pub mod Codes
 pub mod Events
 pub mod Devices
 pub mod Disk
-pub mod Faults
 pub mod Kept
 pub mod Calls
 pub mod Config

@@ -4,26 +4,21 @@ ghost use Rattle.std.specs.Prelude.{◌≡◌, ◌≢◌, ◌↔◌, IfOk, IsErr
 ghost use Rattle.board.specs.declared.saved.RestoreRefusal.{RestoreRefusal};
 ghost use Rattle.board.specs.declared.saved.SaveRefusal.{SaveRefusal};
 ghost use Rattle.session.specs.declared.refusal.Refusal.{Refusal};
-ghost use Rattle.board_ffi.specs.Codes.{board_code, code_by, fault_code, is_saving, memory_code, progress_code, refusal_code, restore_code, restore_fault_code, save_code, slot_fault_code, went_on_code};
+ghost use Rattle.board_ffi.specs.Codes.{board_code, code_by, fault_code, is_saving, progress_code, refusal_code, restore_code, restore_fault_code, save_code, slot_fault_code, went_on_code};
 
-use session::{
-    BoardFault, CacheFault, MemoryFault, Progress, Refusal, RestoreFault, RestoreRefusal,
-    SaveRefusal, SessionFault, SlotFault,
+use c_values::of_memory_fault;
+pub(crate) use c_values::{
+    BAD_DEPTH, BAD_DEVICE, BAD_LOAN, BAD_OUTLET, BAD_SIZE, BAD_WINDOW, BUSY, DONE, EXTENT_OUTSIDE,
+    HAS_BOARD, IDLE, IO, MORE, NO_BOARD, NO_MEMORY, NO_ROOM,
 };
-
-pub(crate) const DONE: u32 = 0;
-
-pub(crate) const NO_BOARD: u32 = 1;
-
-pub(crate) const HAS_BOARD: u32 = 2;
+use session::{
+    BoardFault, CacheFault, Progress, Refusal, RestoreFault, RestoreRefusal, SaveRefusal,
+    SessionFault, SlotFault,
+};
 
 pub(crate) const BAD_SLOT: u32 = 3;
 
 pub(crate) const BAD_RANGE: u32 = 4;
-
-pub(crate) const NO_MEMORY: u32 = 5;
-
-pub(crate) const BAD_WINDOW: u32 = 6;
 
 pub(crate) const BAD_IMAGE: u32 = 7;
 
@@ -31,29 +26,9 @@ pub(crate) const NO_SLOTS: u32 = 8;
 
 pub(crate) const TOO_MANY_SLOTS: u32 = 9;
 
-pub(crate) const BAD_MEMORY_SIZE: u32 = 10;
-
-pub(crate) const BAD_MEMORY_BASE: u32 = 11;
-
-pub(crate) const EXTENT_OUTSIDE: u32 = 12;
-
 pub(crate) const EXTENTS_OVERLAP: u32 = 13;
 
 pub(crate) const BAD_CACHE: u32 = 14;
-
-pub(crate) const NO_ROOM: u32 = 15;
-
-pub(crate) const BAD_OUTLET: u32 = 16;
-
-pub(crate) const BAD_SIZE: u32 = 17;
-
-pub(crate) const MORE: u32 = 18;
-
-pub(crate) const BUSY: u32 = 19;
-
-pub(crate) const IO: u32 = 20;
-
-pub(crate) const IDLE: u32 = 21;
 
 pub(crate) const NO_IMAGE: u32 = 22;
 
@@ -65,17 +40,7 @@ pub(crate) const BAD_STATE: u32 = 25;
 
 pub(crate) const SHORT_BUFFER: u32 = 26;
 
-pub(crate) const NO_REGIONS: u32 = 27;
-
-pub(crate) const REGIONS_NOT_APART: u32 = 28;
-
-pub(crate) const BAD_LOAN: u32 = 29;
-
-pub(crate) const BAD_DEPTH: u32 = 30;
-
 pub(crate) const OTHER_DEVICES: u32 = 31;
-
-pub(crate) const BAD_DEVICE: u32 = 32;
 
 /// The number of a call that was refused.
 pub(crate) fn of_refusal(why: Refusal) -> u32
@@ -203,20 +168,6 @@ pub(crate) fn of_fault(why: SessionFault) -> u32
         SessionFault::SpentBudget => DONE,
         SessionFault::Board(why) => of_board_fault(why),
         SessionFault::NoMemory => NO_MEMORY,
-    }
-}
-
-// The number of a guest's memory that was refused.
-fn of_memory_fault(why: MemoryFault) -> u32
-    ensures number { result ≡ memory_code why }
-    ensures of_board { (result ≢ 0) × (result ≢ 16) × (result ≢ 17) }
-{
-    match why {
-        MemoryFault::NoRegions => NO_REGIONS,
-        MemoryFault::BadSize => BAD_MEMORY_SIZE,
-        MemoryFault::BadBase => BAD_MEMORY_BASE,
-        MemoryFault::NotApart => REGIONS_NOT_APART,
-        MemoryFault::NoMemory => NO_MEMORY,
     }
 }
 

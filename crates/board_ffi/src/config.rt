@@ -5,6 +5,7 @@ ghost use Rattle.chain.specs.Budget.{IsSpent};
 ghost use Rattle.board_ffi.specs.Config.{AreSized, budget_of, config_size};
 
 use crate::slot::{Slot, are_sized};
+use c_values::budget;
 use guest_bytes::Loan;
 use session::Budget;
 
@@ -74,18 +75,7 @@ impl Config<'_> {
         ensures value { result ≡ budget_of self.now }
         ensures lasts { ¬ IsSpent result }
     {
-        Budget {
-            chains: if self.chains == 0 {
-                None
-            } else {
-                Some(self.chains)
-            },
-            bytes: if self.bytes == 0 {
-                None
-            } else {
-                Some(self.bytes)
-            },
-        }
+        budget(self.chains, self.bytes)
     }
 }
 

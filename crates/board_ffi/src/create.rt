@@ -14,7 +14,7 @@ use session::{Session, SessionFault};
 use std::alloc::Global;
 
 /// Makes a board of a config, and puts it into an empty handle. Each loan is taken, and an empty one left.
-#[tactic(auto, using(crate::proofs::OneByOne::none_taken))]
+#[tactic(auto, using(c_values::proofs::OneByOne::none_taken))]
 #[unsafe(no_mangle)]
 pub extern "C" fn kalyubos_create(alloc: Global, board: &mut Handle, config: &mut Config<'_>) -> u32
     ensures full { IfSome board.old.session (λ old. (result ≡ 2) × (board.new.session ≡ Some old)) }
@@ -86,7 +86,7 @@ fn boxed(alloc: Global, config: &mut Config<'_>) -> Result<Box<Session>, Session
 }
 
 // The session that a config describes.
-#[tactic(auto, using(crate::proofs::OneByOne::none_taken))]
+#[tactic(auto, using(c_values::proofs::OneByOne::none_taken))]
 fn session(alloc: Global, config: &mut Config<'_>) -> Result<Session, SessionFault>
     ensures made { IfOk result (λ session. session ≡ session_of config.old) }
     ensures good { OnOk result (IsGood config.old) }

@@ -1,8 +1,9 @@
 //! A further device of a slot, as C describes it.
 
 ghost use Rattle.std.specs.Prelude.{◌≡◌};
-ghost use Rattle.board_ffi.specs.Config.{depth_of, device_of, disk_of};
+ghost use Rattle.board_ffi.specs.Config.{device_of, disk_of};
 
+use c_values::depth;
 use session::DeviceSpec;
 
 /// The type of no device, and those that a slot may have (VIRTIO 1.2, 5).
@@ -71,11 +72,4 @@ impl Device {
             depth: depth(self.depth),
         }
     }
-}
-
-/// How many operations of a disk may be in flight. A depth that is too large stays so.
-pub(crate) fn depth(depth: u32) -> u8
-    ensures { result ≡ depth_of depth }
-{
-    depth.clamp(1, 255) as u8
 }

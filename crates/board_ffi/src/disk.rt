@@ -6,9 +6,9 @@ ghost use Rattle.board_ffi.specs.Calls.{AtDisk, Calls, Completes, HasInFlight, I
 
 use crate::answers::disk;
 use crate::handle::{Handle, session_of};
-use crate::operation::{Operation, Run};
 use crate::pending::Pending;
 use crate::window::disk_numbered;
+use c_values::{Operation, Run};
 use session::{HostEvent, Session};
 
 /// Tells which tags of a guest's disk are in flight: bit n is set where tag n is.

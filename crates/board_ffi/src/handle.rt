@@ -5,11 +5,10 @@
 
 ghost use Rattle.std.specs.Prelude.{◌≡◌, Some, None, MatchOption};
 ghost use Rattle.std.specs.Borrow.{sem};
-ghost use Rattle.board_ffi.specs.Handle.{Held, held, held_coded};
+ghost use Rattle.c_values.specs.Handle.{held};
+ghost use Rattle.board_ffi.specs.Handle.{Held, held_coded, session_row};
 
-pub(crate) mod parts;
-
-use parts::Parts;
+use c_values::Parts;
 use session::Session;
 use std::alloc::Global;
 use std::marker::Model;
@@ -35,7 +34,7 @@ pub struct Handle {
 }
 
 impl Model for Handle {
-    ghost also_owns = { λ h. held h.alloc h.at h.session };
+    ghost also_owns = { λ h. held session_row h.alloc h.at h.session };
 }
 
 impl Handle {

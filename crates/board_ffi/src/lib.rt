@@ -2,10 +2,10 @@
 //!
 //! Each export takes a handle, does what the session behind it does, and answers a number. `handle` is what
 //! C holds, `answers` what each call of a session is answered, `codes` the numbers, `pending` what waits once a call is
-//! answered, `operation` what a disk is asked for. `slot`, `region` and `device` describe a guest, `config` a board. `create`
-//! makes a board and destroys it, `loans` has the memory that the host lends it, and `judge` says what is wrong with a
-//! description. `registers`, `devices`, `disk`, `memory`, `pages`, `console`, `saved`, `image`, `counters` and `fault` have the
-//! calls on one; `window` says whose a window of a number is. `version` is the header's number.
+//! answered. `slot` and `device` describe a guest, `config` a board. `create` makes a board and destroys it, `loans` has the memory
+//! that the host lends it, and `judge` says what is wrong with a description. `registers`, `devices`, `disk`, `memory`, `pages`,
+//! `console`, `saved`, `image`, `counters` and `fault` have the calls on one; `window` says whose a window of a number is.
+//! `version` is the header's number.
 #![tactic(auto)]
 
 mod answers;
@@ -23,10 +23,8 @@ mod image;
 mod judge;
 mod loans;
 mod memory;
-mod operation;
 mod pages;
 mod pending;
-mod region;
 mod registers;
 mod saved;
 mod slot;

@@ -5,8 +5,8 @@ ghost use Rattle.session.specs.Refusing.{AreDevices, AreOutlets, has_bad_device}
 ghost use Rattle.board_ffi.specs.Judging.{first_of_bad_device, first_of_large_outlet, first_of_other_size};
 ghost use Rattle.board_ffi.specs.Config.{AreSized, backing_of, guest_of, guests_of};
 
-use crate::device::{Device, depth};
-use crate::region::regions;
+use crate::device::Device;
+use c_values::{depth, regions};
 use guest_memory::{MOST_REGIONS, RegionSpec};
 use session::{Backing, Extent, GuestSpec, MOST_DEVICES, SlotSpec, has_bad_device};
 use std::alloc::{AllocError, Global};

@@ -1,4 +1,15 @@
 -- A struct of a pointer and of the heap, which holds a value of some type or none, and what the walks through its functions share.
+--     Holder           row, laws        the type of what is held
+--                      name, D          the struct's name and its values
+--                      holds, make      the pointer, the heap and what is held of a value, and the value of these
+--                      coded, shr_at    those of the struct's row
+--     H, E, Of         the struct's row; a box of what is held; the parts of one
+--     own              what is owned of a pointer, the heap and what is held
+--     handle_out       a handle by value: [what lies behind the pointer; the heap]
+--     made_in, empty_in     a handle that is made; what an empty one owns, of the heap
+--     tested           the pointer of what is held may be compared with null
+--     handle_opens     a handle behind a `&mut`: [what lies behind the pointer; the heap; the word; the open borrow; obs; auth]
+--     held_cases       what lies behind the pointer: nothing, or [what is held, with the right to free it]
 use mathlib.Core.Path.{◌≡◌, refl, sym, subst}
 use mathlib.Core.List.{List, [], ◌∷◌, ◌++◌}
 use Prim.Native.Nat.{ℕ}

@@ -1,4 +1,4 @@
-//! A `Box` with its fields in sight of the module above. It isn't `Drop`, so what holds one ends it or hands it on.
+//! A `Box` with its fields in sight, of which a handle is made. It isn't `Drop`, so what holds one ends it or hands it on.
 
 ghost use Rattle.std.specs.Prelude.{◌≡◌};
 ghost use Rattle.std.specs.Box.Ownership.{box_owns};
@@ -6,6 +6,7 @@ ghost use Rattle.std.specs.Box.Ownership.{box_owns};
 use std::alloc::Allocator;
 use std::marker::Model;
 
+/// What a box is made of.
 pub struct Parts<T, A: Allocator> {
     pub ptr: *mut T,
     pub alloc: A,
@@ -17,6 +18,7 @@ impl<T, A: Allocator> Model for Parts<T, A> {
 }
 
 impl<T, A: Allocator> Parts<T, A> {
+    /// Takes a box apart.
     pub fn of(b: Box<T, A>) -> Parts<T, A>
     where
         T: Drop,
@@ -26,6 +28,7 @@ impl<T, A: Allocator> Parts<T, A> {
         Parts { ptr, alloc }
     }
 
+    /// The box again.
     pub fn into_box(self) -> Box<T, A>
         ensures { result.value ≡ self.value }
     {

@@ -4,13 +4,12 @@ ghost use Rattle.std.specs.Prelude.{◌≡◌, ◌≢◌, None, IfNone, IfSome, 
 ghost use Rattle.board_ffi.specs.Calls.{Completes, HasInFlight, IsAskedFor, IsAtRest, IsNoDisk, Says, TellsOf};
 ghost use Rattle.board_ffi.specs.Codes.{code_at};
 ghost use Rattle.board_ffi.specs.Disk.{IsInFlight, flight_of, in_flight_of, rest_code};
-ghost use Rattle.board_ffi.specs.Events.{verdict_of};
 
 use crate::codes::{BAD_SLOT, BAD_WINDOW, DONE, IDLE, of_served};
-use crate::operation::{Operation, Run, tell_runs};
 use crate::pending::Pending;
 use crate::window::DiskWindow;
-use session::{HostEvent, Segment, Session, Told, Verdict};
+use c_values::{Operation, Run, tell_runs, verdict};
+use session::{HostEvent, Segment, Session, Told};
 
 /// Tells which tags of a disk are in flight.
 pub(crate) fn in_flight(session: &Session, slot: u8, disk: DiskWindow, tags: &mut u64) -> u32
@@ -176,15 +175,4 @@ pub(crate) fn of_no_disk(session: &Session, slot: u8, pending: &mut Pending) -> 
 {
     pending.tell(session, slot);
     no_disk(slot, session.slots())
-}
-
-// What came of an operation.
-fn verdict(failed: bool) -> Verdict
-    ensures { result ≡ verdict_of failed }
-{
-    if failed {
-        Verdict::Failed
-    } else {
-        Verdict::Done
-    }
 }

@@ -4,11 +4,11 @@ ghost use Rattle.std.specs.Prelude.{◌≡◌, ◌≢◌, ◌<◌, ◌≤◌, Is
 ghost use Rattle.board.specs.declared.event.EventKind.{EventKind};
 ghost use Rattle.board.specs.declared.reply.Reply.{Reply};
 ghost use Rattle.board_ffi.specs.Calls.{GoesOn, HasWords, IsMissing, IsThere, IsUndisturbed, Takes, TellsOf, Writes};
-ghost use Rattle.board_ffi.specs.Faults.{IsTold};
+ghost use Rattle.c_values.specs.Faults.{IsTold};
 
 use crate::codes::{BAD_SLOT, DONE, of_served, told};
-use crate::fault::Fault;
 use crate::pending::Pending;
+use c_values::Fault;
 use session::{Counters, Session, SlotWindow, Told};
 
 /// A guest's read of a register: what it gets.

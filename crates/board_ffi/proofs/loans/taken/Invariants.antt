@@ -1,6 +1,6 @@
-use Rattle.std.proofs.Common.{◌≡◌, [], length, map, take, drop}
-use Rattle.std.specs.Prelude.{All}
+use Rattle.std.proofs.Common.{◌≡◌, [], map, take}
 use Rattle.std.specs.Vec.{vec_items}
+use Rattle.c_values.proofs.OneByOne.{AreTakenTo}
 use Rattle.board_ffi.specs.Config.{lent_bytes}
 use Rattle.board_ffi.proofs.loans.taken.Given as goal
 
@@ -8,6 +8,4 @@ use Rattle.board_ffi.proofs.loans.taken.Given as goal
 abbrev pub invariant-loop-place : goal.invariant-loop-place
 invariant-loop-place l =
     (map vec_items l.bytes.items ≡ lent_bytes (take l.place l.fn.loans))
-    × (drop l.place l.loans ≡ drop l.place l.fn.loans)
-    × (length l.loans ≡ length l.fn.loans)
-    × All (λ loan. loan.items ≡ []) (take l.place l.loans)
+    × AreTakenTo (λ loan. loan.items ≡ []) l.place l.fn.loans l.loans
