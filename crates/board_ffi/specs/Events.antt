@@ -1,5 +1,5 @@
 -- What a call does to a board.
-use Rattle.std.specs.Prelude.{◌≡◌, ◌⊎◌, ℕ, ◌==◌, ◌||◌, ◌<◌, ◌≤◌, ◌+◌, ◌++◌, ◌↔◌, Bool, false, List, [], Option, None, Some, IsTrue, IsErrOf, IsSome, IsSomeAnd, if◌then◌else◌, length, min, take, drop, Result}
+use Rattle.std.specs.Prelude.{◌≡◌, ◌⊎◌, ℕ, ◌==◌, ◌||◌, ◌<◌, ◌≤◌, ◌+◌, ◌++◌, ◌↔◌, Bool, false, List, [], Option, None, Some, IsTrue, IsErrOf, IsSome, IsSomeAnd, length, min, take, drop, Result}
 use Rattle.std.specs.List.{slice_get}
 use Rattle.std.specs.Global.{Global}
 use Rattle.guest_memory.specs.Memory.{Inside, Memory}
