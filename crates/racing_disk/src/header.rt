@@ -6,7 +6,7 @@ ghost use Rattle.chain.specs.Bytes.{len_of};
 ghost use Rattle.shared_memory.specs.Sightings.{Loads, memory};
 ghost use Rattle.racing_disk.specs.Copying.{IsHeader};
 
-use crate::copy::copy;
+use crate::copy::copy_first;
 use byteorder::{ByteOrder, LittleEndian};
 use chain::{Chain, Runs};
 use shared_memory::Shared;
@@ -31,7 +31,7 @@ impl Header {
         ensures races { M.races mem.new ≡ M.races mem.old }
     {
         let mut bytes = [0; HEADER_LEN as usize];
-        copy(mem, chain, 0, &mut bytes, room);
+        copy_first(mem, chain, &mut bytes, room);
         Header {
             kind: LittleEndian::read_u32(&bytes),
             sector: LittleEndian::read_u64(&bytes[8..]),
