@@ -8,8 +8,6 @@ mod laws;
 mod putting;
 mod receive;
 mod serve;
-#[cfg(test)]
-mod tests;
 mod transmit;
 
 pub use laws::{a_full_outlet_leaves_its_chain, a_guest_that_stands_still_is_served_as_it_is};

@@ -18,8 +18,6 @@ mod segment;
 mod segments;
 mod serving;
 mod status;
-#[cfg(test)]
-mod tests;
 
 pub use completion::complete;
 pub use disk::RacingDisk;

@@ -8,8 +8,6 @@ mod laws;
 mod look;
 mod step;
 mod tags;
-#[cfg(test)]
-mod tests;
 mod told;
 mod unserved;
 mod view;

@@ -9,8 +9,6 @@ mod laws;
 mod memory;
 mod past;
 mod region;
-#[cfg(test)]
-mod tests;
 mod word;
 
 pub use laws::good_regions_make_a_memory;

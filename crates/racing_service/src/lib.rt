@@ -12,8 +12,6 @@ mod service;
 mod sink;
 mod stage;
 mod storing;
-#[cfg(test)]
-mod tests;
 
 pub use device::RacingDevice;
 pub use flight::KeepsFlights;

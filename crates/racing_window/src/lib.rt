@@ -6,8 +6,6 @@ mod flight;
 mod laws;
 mod ring;
 mod service;
-#[cfg(test)]
-mod tests;
 
 pub use laws::{
     a_chain_that_is_left_alone_is_of_one_moment, a_queue_that_stands_still_is_served_by_services,

@@ -3,9 +3,10 @@
 ghost use Rattle.std.specs.Prelude.{◌*◌, ◌^◌, ◌<◌};
 ghost use Rattle.block_device.specs.Extent.{sector_len};
 
-use crate::RacingDisk;
+use crate::tests::meddled::Meddled;
 use block_device::{BlockDevice, Extent, Request};
 use chain::{Budget, Chain, Runs, Segment, Setup};
+use racing_disk::RacingDisk;
 use racing_memory::{RacingMemory, RacingRegion};
 use racing_ring::{RacingSplitRing, Room};
 use racing_service::{Limits, Stage};
@@ -15,66 +16,8 @@ use std::test::*;
 
 const BASE: u64 = 0x1000;
 
-/// A memory whose guest adds 3 to a word behind each load.
-#[derive(Drop)]
-struct Meddled<'r, 'w> {
-    mem: RacingMemory<'r, 'w>,
-    word: &'w AtomicU64,
-}
-
-impl<'r, 'w> Meddled<'r, 'w> {
-    fn meddle(&self) {
-        let word = self.word.load(Ordering::SeqCst);
-        self.word.store(word.wrapping_add(3), Ordering::SeqCst);
-    }
-}
-
-impl<'r, 'w> Shared for Meddled<'r, 'w> {
-    ghost use Rattle.std.specs.Prelude.{true};
-    ghost use Rattle.racing_memory.specs.Past.{sightings_of};
-
-    ghost sightings = { λ m. sightings_of m.mem };
-
-    ghost races = { λ m. true };
-
-    fn holds(&self, addr: u64, n: u64) -> bool {
-        self.mem.holds(addr, n)
-    }
-
-    fn fits(&self, addr: u64, n: u64) {
-        self.mem.fits(addr, n);
-    }
-
-    fn load_u16(&mut self, addr: u64) -> u16 {
-        let value = self.mem.load_u16(addr);
-        self.meddle();
-        value
-    }
-
-    fn load(&mut self, addr: u64, into: &mut [u8]) {
-        self.mem.load(addr, into);
-        self.meddle();
-    }
-
-    fn store_u8(&mut self, addr: u64, v: u8) {
-        self.mem.store_u8(addr, v);
-    }
-
-    fn store_u16(&mut self, addr: u64, v: u16) {
-        self.mem.store_u16(addr, v);
-    }
-
-    fn store_u32(&mut self, addr: u64, v: u32) {
-        self.mem.store_u32(addr, v);
-    }
-
-    fn store_u64(&mut self, addr: u64, v: u64) {
-        self.mem.store_u64(addr, v);
-    }
-}
-
-#[tactic(auto, using(chain::proofs::Holding::good_after, chain::proofs::Admitting::good_nil))]
 /// The request of a chain of one readable buffer.
+#[tactic(auto, using(chain::proofs::Holding::good_after, chain::proofs::Admitting::good_nil))]
 fn request_of<M: Shared>(
     disk: &RacingDisk,
     mem: &mut M,

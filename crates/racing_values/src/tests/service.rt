@@ -2,10 +2,10 @@
 
 ghost use Rattle.shared_memory.specs.Sightings.{memory};
 
-use crate::{Ending, Limits, Outcome, RacingQueue, Sink, Stage, serve, store_in_chain};
 use chain::{Budget, Chain, Runs, Setup};
 use guest_memory::GuestMemory;
 use racing_ring::{RacingPackedRing, RacingSplitRing, Room};
+use racing_service::{Ending, Limits, Outcome, RacingQueue, Sink, Stage, serve, store_in_chain};
 use shared_memory::Shared;
 use std::alloc::Allocator;
 use std::test::*;

@@ -1,6 +1,6 @@
 use Rattle.std.proofs.Common.{[], ◌∷◌, refl, arith}
 use Rattle.racing_memory.proofs.Places.{more_make, one_makes}
-use Rattle.racing_memory.proofs.tests.two_bytes_across_words_of_the_second_region.Goals as goal
+use Rattle.racing_values.proofs.tests.memory.two_bytes_across_words_of_the_second_region.Goals as goal
 
 pub over-mem-requires : goal.over-mem-requires
 over-mem-requires g c =

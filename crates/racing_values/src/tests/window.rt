@@ -3,13 +3,13 @@
 ghost use Rattle.mmio_window.specs.Soundness.{IsSound};
 ghost use Rattle.shared_memory.specs.Sightings.{memory};
 
-use crate::serve_queue;
 use chain::{Budget, Chain, Fault, Progress};
 use guest_memory::GuestMemory;
 use mmio_window::{DeviceKind, FaultNote, Window};
 use negotiation::Features;
 use racing_ring::Room;
 use racing_service::{Limits, Sink};
+use racing_window::serve_queue;
 use shared_memory::{RangesOf, Shared};
 use std::alloc::Allocator;
 use std::test::*;

@@ -1,6 +1,6 @@
 //! Worked values: which bytes of which words a store changes, and what a load then finds.
 
-use crate::{RacingMemory, RacingRegion};
+use racing_memory::{RacingMemory, RacingRegion};
 use shared_memory::Shared;
 use std::process::Abort;
 use std::sync::atomic::{AtomicU64, Ordering};

@@ -1,9 +1,9 @@
 //! Worked values: two reads of a disk are in flight at once, and are completed the other way round.
 
-use crate::{LookLimits, RacingHostedDisk, what_is_in_flight_outlasts};
 use block_device::{HostEvent, Operation, OperationKind, Verdict};
 use chain::{Budget, Chain, Setup};
 use guest_memory::GuestMemory;
+use racing_hosted_disk::{LookLimits, RacingHostedDisk, what_is_in_flight_outlasts};
 use racing_ring::{RacingSplitRing, Room};
 use shared_memory::Shared;
 use std::alloc::Allocator;
