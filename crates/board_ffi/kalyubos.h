@@ -125,7 +125,8 @@ enum {
     KALYUBOS_OTHER_DEVICES = 31,    /* the snapshot has other further devices than the slot; nothing changed */
     KALYUBOS_BAD_DEVICE = 32,       /* a further device's kind isn't known, a network card's MTU is below 68, or a disk has
                                        2^55 sectors or more or a depth above 64; or a guest that runs on has one */
-    KALYUBOS_NOT_HOSTED = 33        /* the host serves the disk of a guest that runs on, which is no extent of an image */
+    KALYUBOS_NOT_HOSTED = 33,       /* the host serves the disk of a guest that runs on, which is no extent of an image */
+    KALYUBOS_RUNS_ON = 34           /* a guest that runs on is on no board; see kalyubos_guest_create */
 };
 
 /* What an answer says, as a sentence for a person. It is never null: a number of a later version has a sentence too. */
@@ -216,6 +217,8 @@ struct kalyubos_slot {
     uint32_t outlet;      /* how many bytes of what it puts out may wait to be taken */
     bool read_only;       /* whether its disk refuses writes */
     bool hosted;          /* whether the host serves its disk; else it shows an extent of the image */
+    bool runs;            /* whether its CPUs run on while it is served: kalyubos_create refuses it, whatever its disk, and
+                             kalyubos_guest_create is for it */
     uint8_t identity[20]; /* what its disk answers to GET_ID, a shorter text with NULs behind it; Linux's `serial` */
     uint32_t depth;       /* how many operations may be in flight where the host serves its disk, 1 to KALYUBOS_TAGS; 0
                              is 1. It isn't looked at where the disk is of the image. */
@@ -281,12 +284,12 @@ static inline struct kalyubos_config kalyubos_config(const struct kalyubos_slot 
  * Makes a board and puts it into an empty handle. A refusal leaves the handle as it was and keeps no memory. The first
  * of these that holds is answered:
  *  - HAS_BOARD; BAD_SIZE, where the config's `size` or a slot's is another than its sizeof, and nothing behind it is
- *    read; BAD_LOAN, where there are loans; BAD_IMAGE; BAD_OUTLET; BAD_DEVICE; NO_SLOTS; TOO_MANY_SLOTS;
+ *    read; RUNS_ON; BAD_LOAN, where there are loans; BAD_IMAGE; BAD_OUTLET; BAD_DEVICE; NO_SLOTS; TOO_MANY_SLOTS;
  *  - slot by slot NO_REGIONS, then region by region BAD_MEMORY_SIZE, BAD_MEMORY_BASE and REGIONS_NOT_APART, then
  *    BAD_DEPTH, EXTENT_OUTSIDE and EXTENTS_OVERLAP;
  *  - BAD_CACHE.
  * NO_MEMORY may come in the place of one of the numbers from NO_SLOTS on, and over loans in the place of all but
- * HAS_BOARD and BAD_SIZE.
+ * HAS_BOARD, BAD_SIZE and RUNS_ON.
  *
  * A sector is read where it lies in the image, so `cache` is judged and changes nothing else.
  *
@@ -299,8 +302,8 @@ static inline struct kalyubos_config kalyubos_config(const struct kalyubos_slot 
  *
  * With loans the memories are the lent bytes, for the board's life. None is copied, cleared or touched by this call or
  * by kalyubos_destroy, which frees none: a guest of 64 GiB is made at once. Its memory begins as the bytes stand, and
- * kalyubos_memory lends them back. Each loan is taken: null and 0 are left in its place. After HAS_BOARD and BAD_SIZE
- * all loans are as they were; after another refusal the first of them are taken, which may be none or all, and the
+ * kalyubos_memory lends them back. Each loan is taken: null and 0 are left in its place. After HAS_BOARD, BAD_SIZE
+ * and RUNS_ON all loans are as they were; after another refusal the first of them are taken, which may be none or all, and the
  * others are as they were. The bytes of a refused call are the host's again; it fills the array before it tries again.
  * Until kalyubos_destroy the bytes stay mapped where they are, and no two loans of any boards share a byte. The duty
  * above on a guest's memory in place holds of them.
@@ -314,7 +317,7 @@ uint32_t kalyubos_create(struct kalyubos *board, struct kalyubos_config *config)
 /*
  * Judges a config as kalyubos_create does for an empty handle, and makes no board: it answers what that call would
  * answer, want of memory aside, and takes no loan. `slot` is told where the answer is about one: its place in the
- * array, of its BAD_SIZE, BAD_OUTLET and BAD_DEVICE too. So is `region`: its place in the slot's `regions`. NO_MEMORY
+ * array, of its BAD_SIZE, RUNS_ON, BAD_OUTLET and BAD_DEVICE too. So is `region`: its place in the slot's `regions`. NO_MEMORY
  * may come in the place of a number from NO_SLOTS on.
  */
 uint32_t kalyubos_judge(const struct kalyubos_config *config, size_t *slot, size_t *region);

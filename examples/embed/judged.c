@@ -18,7 +18,7 @@ static const uint8_t image[IMAGE];
 /* Whether the answer comes before any memory is asked for. */
 static bool is_judged_first(uint32_t answer)
 {
-    return answer == KALYUBOS_BAD_SIZE || answer == KALYUBOS_BAD_LOAN || answer == KALYUBOS_BAD_IMAGE ||
+    return answer == KALYUBOS_BAD_SIZE || answer == KALYUBOS_RUNS_ON || answer == KALYUBOS_BAD_LOAN || answer == KALYUBOS_BAD_IMAGE ||
            answer == KALYUBOS_BAD_OUTLET || answer == KALYUBOS_BAD_DEVICE;
 }
 
@@ -48,7 +48,7 @@ static void check(struct kalyubos_config config, uint32_t answer, struct place p
         end(&board);
 }
 
-/* ---- two slots: sizes come first, then outlets, then slot by slot all else */
+/* ---- two slots: sizes come first, then guests that run on, then outlets, then slot by slot all else */
 
 static const struct {
     struct kalyubos_slot slots[2];
@@ -63,6 +63,11 @@ static const struct {
       KALYUBOS_BAD_SIZE, { 0, UNTOLD } },
     { { { .size = SIZE, .regions = { { 0, 1 } }, .count = SECTORS + 1 }, { .size = 0 } },
       KALYUBOS_BAD_SIZE, { 1, UNTOLD } },
+    { { { .size = SIZE, .regions = { { 1, 1 } }, .outlet = TOO_LARGE, .runs = true }, { .size = SIZE + 8, .runs = true } },
+      KALYUBOS_BAD_SIZE, { 1, UNTOLD } },
+    { { { .size = SIZE, .regions = { { 1, 1 } }, .outlet = TOO_LARGE }, { .size = SIZE, .runs = true } },
+      KALYUBOS_RUNS_ON, { 1, UNTOLD } },
+    { { { .size = SIZE, .runs = true }, { .size = SIZE, .runs = true } }, KALYUBOS_RUNS_ON, { 0, UNTOLD } },
     { { { .size = SIZE, .regions = { { 0, PAGE }, { 1, 1 } } }, { .size = SIZE, .outlet = TOO_LARGE } },
       KALYUBOS_BAD_OUTLET, { 1, UNTOLD } },
     { { { .size = SIZE, .outlet = TOO_LARGE }, { .size = SIZE, .outlet = TOO_LARGE } },

@@ -68,6 +68,7 @@ pub struct Slot {
     pub outlet: u32,
     pub read_only: bool,
     pub hosted: bool,
+    pub runs: bool,
     pub identity: [u8; 20],
     pub depth: u32,
     pub devices: [Device; DEVICES],

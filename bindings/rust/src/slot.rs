@@ -213,6 +213,7 @@ impl Slot {
             outlet: self.outlet,
             read_only: self.read_only,
             hosted: self.hosted,
+            runs: false,
             identity: *self.identity.bytes(),
             depth: self.depth,
             devices,

@@ -72,6 +72,8 @@ const char *kalyubos_answer(uint32_t number)
         return "a further device is an entropy device, a card of an MTU of 68 or more, or a disk below 2^55 sectors and depth 65";
     case KALYUBOS_NOT_HOSTED:
         return "the host serves the disk of a guest that runs on: set the slot's `hosted`";
+    case KALYUBOS_RUNS_ON:
+        return "a guest that runs on is on no board: kalyubos_guest_create makes it";
     default:
         return "a number that this version of kalyubos.h doesn't know";
     }

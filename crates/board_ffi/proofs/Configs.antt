@@ -22,7 +22,7 @@ use Rattle.session.proofs.Refusals.{lent_refused, only_device, only_image, only_
 use Rattle.board_ffi.specs.declared.config.Config.{Config}
 use Rattle.board_ffi.specs.declared.config.ToldConfig.{ToldConfig}
 use Rattle.c_values.specs.Limits.{limit_of}
-use Rattle.board_ffi.specs.Config.{AreLent, AreSized, Describes, IsGood, IsRefused, IsSized, IsVerdict, RefusedBy, Verdict, OtherSize, Good, Bad, budget_of, config_size, guests_of, lent_bytes, lens_of, new_by, told_lens, verdict_code}
+use Rattle.board_ffi.specs.Config.{AreLent, AreSized, Describes, IsGood, IsRefused, IsSized, IsVerdict, RefusedBy, StandStill, Verdict, OtherSize, RunsOn, Good, Bad, budget_of, config_size, guests_of, lent_bytes, lens_of, new_by, told_lens, verdict_code}
 use Rattle.board_ffi.specs.Codes.{board_code, fault_code}
 use Rattle.board_ffi.specs.Create.{IsRefusal}
 
@@ -144,11 +144,12 @@ good_refused config good told (inr t) =
     told t
 
 -- a session that is made is what was described, by its verdict
-pub made_by : (config : Config) → IsSized config → IsGood config → (verdict : Verdict)
+pub made_by : (config : Config) → IsSized config → StandStill config.slots.now → IsGood config → (verdict : Verdict)
     → IsVerdict config verdict → (0 ≡ verdict_code verdict) ⊎ (◌≡◌ {A = ℕ} 0 5)
-made_by config sized good OtherSize v = absurd (v sized)
-made_by config sized good Good v = inl refl
-made_by config sized good (Bad why) v = absurd (v.1 (good_refused config good why (inr v.2)))
+made_by config sized still good OtherSize v = absurd (v sized)
+made_by config sized still good RunsOn v = absurd (v.1 still)
+made_by config sized still good Good v = inl refl
+made_by config sized still good (Bad why) v = absurd (v.2 (good_refused config good why (inr v.3)))
 
 -- and one that isn't has the verdict's number, or that of want of memory
 number_of : (told why : SessionFault) (code : ℕ) → code ≡ fault_code told → (told ≡ why) ⊎ (told ≡ NoMemory)
@@ -157,13 +158,14 @@ number_of told why code is (inl same) = inl (is ∙ ap fault_code same)
 number_of told why code is (inr want) = inr (is ∙ ap fault_code want)
 
 pub refused_by : (config : Config) (told : SessionFault) (code : ℕ) → code ≡ fault_code told → IsSized config
-    → IsRefusal config told → (verdict : Verdict) → IsVerdict config verdict
+    → StandStill config.slots.now → IsRefusal config told → (verdict : Verdict) → IsVerdict config verdict
     → (code ≡ verdict_code verdict) ⊎ (code ≡ 5)
-refused_by config told code is sized refused OtherSize v = absurd (v sized)
-refused_by config told code is sized refused Good v =
-    inr (is ∙ ap fault_code (good_refused config v.1 told refused))
-refused_by config told code is sized refused (Bad why) v =
-    number_of told why code is (refused_once config told why refused v.2 v.1)
+refused_by config told code is sized still refused OtherSize v = absurd (v sized)
+refused_by config told code is sized still refused RunsOn v = absurd (v.1 still)
+refused_by config told code is sized still refused Good v =
+    inr (is ∙ ap fault_code (good_refused config v.2 told refused))
+refused_by config told code is sized still refused (Bad why) v =
+    number_of told why code is (refused_once config told why refused v.3 v.2)
 
 -- over memory of its own, and over the lent bytes
 module _ (guests : List GuestSpec) (image : List ℕ) (cache : ℕ) (budget : Budget) where
@@ -207,6 +209,9 @@ no_want sectors slots fault refused want = absurd (cc)
 module _ (told : ToldConfig) (config : Config) (same : Describes told config) where
   pub sized_told : told.size ≡ config_size → AreSized told.slots.now → IsSized config
   sized_told own all = (rw (same.size) own, rw (same.slots) all)
+
+  pub still_told : StandStill told.slots.now → StandStill config.slots.now
+  still_told still = rw (same.slots) still
 
   pub good_told : AreLent (guests_of told.slots.now) (told_lens told.loans.now)
       → length told.image.now % 512 ≡ 0 → AreOutlets (guests_of told.slots.now)

@@ -1,5 +1,5 @@
 -- What a config describes, and what is wrong with it.
-use Rattle.std.specs.Prelude.{◌≡◌, ◌≢◌, ◌⊎◌, ℕ, ◌/◌, ◌%◌, ◌==◌, if◌then◌else◌, Bool, List, [], ◌∷◌, Option, Some, None, All, length, map}
+use Rattle.std.specs.Prelude.{◌≡◌, ◌≢◌, ◌⊎◌, ℕ, ◌/◌, ◌%◌, ◌==◌, if◌then◌else◌, Bool, false, List, [], ◌∷◌, Option, Some, None, All, length, map}
 use Rattle.chain.specs.declared.budget.Budget.{Budget}
 use Rattle.guest_bytes.specs.declared.loan.Loan.{Loan}
 use Rattle.device_list.specs.declared.spec.DeviceSpec.{DeviceSpec}
@@ -64,6 +64,10 @@ AreSized slots = All (λ slot. slot.size ≡ slot_size) slots
 -- and the config too
 abbrev pub IsSized : Config → Type 0
 IsSized config = (config.size ≡ config_size) × AreSized config.slots.now
+
+-- none is of a guest whose CPUs run on while it is served: such a guest has a handle of its own
+abbrev pub StandStill : List Slot → Type 0
+StandStill slots = All (λ slot. slot.runs ≡ false) slots
 
 abbrev pub guests_of : List Slot → List GuestSpec
 guests_of slots = map guest_of slots
@@ -137,18 +141,22 @@ pub record Describes (told : ToldConfig) (config : Config) : Type 0 where
 
 -- ---- the verdict
 
--- What is to be said of a config: a size is another version's, it is good, or it can't be had for this.
+-- What is to be said of a config: a size is another version's, a guest runs on, it is good, or it can't be had for this.
 pub data Verdict : Type 0 where
   OtherSize : Verdict
+  RunsOn : Verdict
   Good : Verdict
   Bad : SessionFault → Verdict
 
 abbrev pub IsVerdict : Config → Verdict → Type 0
 IsVerdict config OtherSize = ¬ IsSized config
-IsVerdict config Good = IsSized config × IsGood config
-IsVerdict config (Bad why) = IsSized config × (why ≢ SessionFault.NoMemory) × IsRefused config why
+IsVerdict config RunsOn = IsSized config × ¬ StandStill config.slots.now
+IsVerdict config Good = IsSized config × StandStill config.slots.now × IsGood config
+IsVerdict config (Bad why) =
+    IsSized config × StandStill config.slots.now × (why ≢ SessionFault.NoMemory) × IsRefused config why
 
 abbrev pub verdict_code : Verdict → ℕ
 verdict_code OtherSize = 17
+verdict_code RunsOn = 34
 verdict_code Good = 0
 verdict_code (Bad why) = fault_code why

@@ -28,10 +28,10 @@ pub record Refuses (config : Config) (code : ℕ) : Type 0 where
 abbrev pub TakesFront : List Loan → List Loan → Type 0
 TakesFront = TakesFirst (λ loan. loan.items ≡ [])
 
--- What is left of the loans: with a board all are empty, after a refusal of the handle or of a size all are as
--- they were, and after another the first of them are taken.
+-- What is left of the loans: with a board all are empty, after a refusal of the handle, of a size or of a
+-- guest that runs on all are as they were, and after another the first of them are taken.
 abbrev pub TakesLoans : List Loan → List Loan → Held → ℕ → Type 0
 TakesLoans old new before code =
     (before ≡ None → code ≡ 0 → All (λ loan. loan.items ≡ []) new)
-    × ((code ≡ 2) ⊎ (code ≡ 17) → new ≡ old)
+    × ((code ≡ 2) ⊎ (code ≡ 17) ⊎ (code ≡ 34) → new ≡ old)
     × TakesFront old new

@@ -10,7 +10,7 @@ use Rattle.board_ffi.specs.declared.config.Config.{Config}
 use Rattle.board_ffi.specs.declared.config.ToldConfig.{ToldConfig}
 use Rattle.board_ffi.specs.declared.slot.Slot.{Slot}
 use Rattle.c_values.specs.Slot.{slot_size}
-use Rattle.board_ffi.specs.Config.{Describes, IsVerdict, Verdict, Bad, config_size, guest_of, OtherSize, verdict_code}
+use Rattle.board_ffi.specs.Config.{Describes, IsVerdict, Verdict, Bad, config_size, guest_of, OtherSize, RunsOn, verdict_code}
 
 -- how many bytes of a console's output may wait at most
 abbrev pub most_waiting : ℕ
@@ -19,6 +19,10 @@ most_waiting = 2 ^ 24
 -- the place of the first slot that says another size, and of the first whose outlet is too large
 abbrev pub first_of_other_size : List Slot → ℕ
 first_of_other_size = prefix_len (λ slot. slot.size == slot_size)
+
+-- of the first whose guest runs on
+abbrev pub first_that_runs : List Slot → ℕ
+first_that_runs = prefix_len (λ slot. not slot.runs)
 
 abbrev pub first_of_large_outlet : List Slot → ℕ
 first_of_large_outlet = prefix_len (λ slot. nat_le slot.outlet most_waiting)
@@ -31,6 +35,7 @@ first_of_bad_device = prefix_len (λ slot. not (has_bad_device (guest_of slot)))
 abbrev pub slot_told : ToldConfig → Verdict → ℕ → ℕ
 slot_told config OtherSize before =
     if config.size == config_size then first_of_other_size config.slots.now else before
+slot_told config RunsOn before = first_that_runs config.slots.now
 slot_told config (Bad BadOutlet) before = first_of_large_outlet config.slots.now
 slot_told config (Bad BadDevice) before = first_of_bad_device config.slots.now
 slot_told config (Bad (Board (AtSlot number fault))) before = number

@@ -42,6 +42,8 @@ pub(crate) const SHORT_BUFFER: u32 = 26;
 
 pub(crate) const OTHER_DEVICES: u32 = 31;
 
+pub(crate) const RUNS_ON: u32 = 34;
+
 /// The number of a call that was refused.
 pub(crate) fn of_refusal(why: Refusal) -> u32
     ensures { result ≡ refusal_code why }

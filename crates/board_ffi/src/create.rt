@@ -1,14 +1,14 @@
 //! A board is made of what C describes, and destroyed.
 
 ghost use Rattle.std.specs.Prelude.{◌≡◌, ◌≢◌, ◌⊎◌, ◌↔◌, [], All, Some, None, MatchOption, IfSome, IfOk, IfErr, OnOk, true, false};
-ghost use Rattle.board_ffi.specs.Config.{IsGood, IsRefused, IsSized, IsVerdict, Verdict, session_of, verdict_code};
+ghost use Rattle.board_ffi.specs.Config.{IsGood, IsRefused, IsSized, IsVerdict, StandStill, Verdict, session_of, verdict_code};
 ghost use Rattle.board_ffi.specs.Create.{IsMade, IsRefusal, Refuses, TakesFront, TakesLoans};
 
-use crate::codes::{BAD_SIZE, DONE, HAS_BOARD, NO_BOARD, of_fault};
+use crate::codes::{BAD_SIZE, DONE, HAS_BOARD, NO_BOARD, RUNS_ON, of_fault};
 use crate::config::{Config, is_sized};
 use crate::handle::Handle;
 use crate::loans::taken;
-use crate::slot::{are_devices, are_outlets, guests};
+use crate::slot::{are_devices, are_outlets, guests, stand_still};
 use sector_cache::are_whole_sectors;
 use session::{Session, SessionFault};
 use std::alloc::Global;
@@ -19,9 +19,11 @@ use std::alloc::Global;
 pub extern "C" fn kalyubos_create(alloc: Global, board: &mut Handle, config: &mut Config<'_>) -> u32
     ensures full { IfSome board.old.session (λ old. (result ≡ 2) × (board.new.session ≡ Some old)) }
     ensures bad_size { board.old.session ≡ None → ((result ≡ 17) ↔ ¬ IsSized config.old) }
+    ensures runs_on { board.old.session ≡ None →
+        ((result ≡ 34) ↔ (IsSized config.old × ¬ StandStill config.old.slots.now)) }
     ensures made { board.old.session ≡ None → result ≡ 0 → IsMade config.old board.new.session }
     ensures none { board.old.session ≡ None → result ≢ 0 → board.new.session ≡ None }
-    ensures why { board.old.session ≡ None → result ≢ 0 → result ≢ 17 → Refuses config.old result }
+    ensures why { board.old.session ≡ None → result ≢ 0 → result ≢ 17 → result ≢ 34 → Refuses config.old result }
 
     // the number of the verdict, but that want of memory may come in its place
     ensures verdict { board.old.session ≡ None → (verdict : Verdict) → IsVerdict config.old verdict →
@@ -34,6 +36,9 @@ pub extern "C" fn kalyubos_create(alloc: Global, board: &mut Handle, config: &mu
     }
     if !is_sized(config.size, config.slots) {
         return BAD_SIZE;
+    }
+    if !stand_still(config.slots) {
+        return RUNS_ON;
     }
     match boxed(alloc, config) {
         Ok(session) => {

@@ -11,11 +11,12 @@ ghost use Rattle.board_ffi.specs.declared.config.ToldConfig.{ToldConfig};
 ghost use Rattle.board_ffi.specs.Config.{Describes, IsGood, IsRefused, IsSized, Bad, guests_of};
 ghost use Rattle.board_ffi.specs.Judging.{Judges, region_told, slot_told};
 
-use crate::codes::{BAD_SIZE, DONE, of_fault};
+use crate::codes::{BAD_SIZE, DONE, RUNS_ON, of_fault};
 use crate::config::{ToldConfig, has_own_size};
 use crate::loans::are_lent;
 use crate::slot::{
-    Slot, are_devices, are_outlets, are_sized, guests, sized, with_devices, with_outlets,
+    Slot, are_devices, are_outlets, are_sized, guests, sized, stand_still, standing, with_devices,
+    with_outlets,
 };
 use board::{BoardFault, CacheFault, SlotFault, SlotSpec, check_slots};
 use guest_memory::MemoryFault;
@@ -46,6 +47,10 @@ pub extern "C" fn kalyubos_judge(
     if !are_sized(config.slots) {
         *slot = sized(config.slots);
         return BAD_SIZE;
+    }
+    if !stand_still(config.slots) {
+        *slot = standing(config.slots);
+        return RUNS_ON;
     }
     match judged(alloc, config) {
         Ok(()) => DONE,

@@ -2,8 +2,8 @@
 
 ghost use Rattle.std.specs.Prelude.{◌≡◌, ◌↔◌, ◌≤◌, false, All, IsTrue, IfOk};
 ghost use Rattle.session.specs.Refusing.{AreDevices, AreOutlets, has_bad_device};
-ghost use Rattle.board_ffi.specs.Judging.{first_of_bad_device, first_of_large_outlet, first_of_other_size};
-ghost use Rattle.board_ffi.specs.Config.{AreSized, backing_of, guest_of, guests_of};
+ghost use Rattle.board_ffi.specs.Judging.{first_of_bad_device, first_of_large_outlet, first_of_other_size, first_that_runs};
+ghost use Rattle.board_ffi.specs.Config.{AreSized, StandStill, backing_of, guest_of, guests_of};
 
 use crate::device::Device;
 use c_values::{depth, regions};
@@ -33,6 +33,8 @@ pub struct Slot {
     pub read_only: bool,
     /// Whether the host serves its disk; else it is of the image.
     pub hosted: bool,
+    /// Whether the guest's CPUs run on while it is served: it has a handle of its own, and is on no board.
+    pub runs: bool,
     pub identity: [u8; 20],
     /// How many operations of its disk may be in flight at once, where the host serves it; 0 is 1.
     pub depth: u32,
@@ -91,6 +93,13 @@ pub(crate) fn are_sized(slots: &[Slot]) -> bool
     slots.iter().all(|slot| slot.size == SLOT_SIZE)
 }
 
+/// Whether no slot is of a guest that runs on.
+pub(crate) fn stand_still(slots: &[Slot]) -> bool
+    ensures { IsTrue result ↔ StandStill slots.now }
+{
+    slots.iter().all(|slot| !slot.runs)
+}
+
 /// Whether no slot's outlet is larger than it may be.
 pub(crate) fn are_outlets(slots: &[Slot]) -> bool
     ensures { IsTrue result ↔ AreOutlets (guests_of slots.now) }
@@ -127,6 +136,13 @@ pub(crate) fn sized(slots: &[Slot]) -> usize
         .iter()
         .take_while(|slot| slot.size == SLOT_SIZE)
         .count()
+}
+
+/// How many slots stand before the first whose guest runs on.
+pub(crate) fn standing(slots: &[Slot]) -> usize
+    ensures { result ≡ first_that_runs slots.now }
+{
+    slots.iter().take_while(|slot| !slot.runs).count()
 }
 
 /// How many slots stand before the first whose outlet is too large.

@@ -57,6 +57,8 @@ pub struct Slot {
     pub read_only: bool,
     /// Whether the host serves its disk; else it is of the image.
     pub hosted: bool,
+    /// Whether the guest's CPUs run on while it is served: it has a handle of its own, and is on no board.
+    pub runs: bool,
     pub identity: [u8; 20],
     /// How many operations of its disk may be in flight at once, where the host serves it; 0 is 1.
     pub depth: u32,

@@ -1,7 +1,7 @@
 use Rattle.std.proofs.Common.{◌∙◌, ap}
 use Rattle.board_ffi.specs.Codes.{fault_code}
 use Rattle.board_ffi.specs.Config.{Bad}
-use Rattle.board_ffi.proofs.Configs.{sized_told}
+use Rattle.board_ffi.proofs.Configs.{sized_told, still_told}
 use Rattle.board_ffi.proofs.judge.kalyubos_judge.Goals as goal
 
 pub returns-in-Err-clause-judges : goal.returns-in-Err-clause-judges
@@ -10,6 +10,7 @@ returns-in-Err-clause-judges c = λ some. record {
   holds = λ config same. (
     sized_told c.args.config.now config same (c.has_own_size.ensures.0 c.if-not-has_own_size.false)
         (c.are_sized.ensures.0 c.if-not-are_sized.false),
+    still_told c.args.config.now config same (c.stand_still.ensures.0 c.if-not-stand_still.false),
     λ want. some (c.of_fault.ensures ∙ ap fault_code want),
     c.in-Err.ensures.fault config same,
   );
