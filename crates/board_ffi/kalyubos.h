@@ -1,7 +1,7 @@
 /*
  * kalyubos.h: up to sixty-four guests, each with a block device, a console and up to six further devices (disks, network
- * cards, entropy devices) over virtio-mmio, behind a CPU loop of your own. docs/model.md says what the devices do, and docs/EMBEDDING.md
- * how an exit of a guest becomes a call.
+ * cards, consoles, entropy devices) over virtio-mmio, behind a CPU loop of your own. docs/model.md says what the devices do, and
+ * docs/EMBEDDING.md how an exit of a guest becomes a call.
  *
  * `make install` installs it, and `pkg-config --cflags --libs kalyubos` says how to link it. Its heap is malloc's,
  * unless the host defines the functions at the end of this file.

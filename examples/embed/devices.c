@@ -43,10 +43,11 @@ static struct kalyubos_device_pending pending_of(uint8_t guest, uint8_t window)
     return pending;
 }
 
-/* The switch: hands each frame that a guest's card sent to the card of the address that it begins with. */
+/* The switch: hands each frame that a guest's card sent to the card of the address that it begins with. A driver may send longer
+ * ones than the MTU allows, up to 65536 bytes. */
 static void forward(uint8_t from)
 {
-    uint8_t frame[FRAME_LEN];
+    static uint8_t frame[65536];
     size_t len;
     for (;;) {
         done(kalyubos_take_frame(&board, from, CARD, frame, sizeof frame, &len), "take_frame");

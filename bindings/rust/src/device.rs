@@ -174,7 +174,7 @@ impl Board {
     /// let card = Device::Network { mac: [2, 0, 0, 0, 0, 1], mtu: 1500 };
     /// let mut board = Board::create(&Config::new(&[Slot::hosted(0, 0x1000, 1).with_device(card)]))?;
     /// assert!(board.receive(0, 0, &[7; 1514])?);
-    /// let mut frame = [0; 1514];
+    /// let mut frame = vec![0; 65536]; // as much as a driver may send, whatever the MTU
     /// assert_eq!(board.take_frame(0, 0, &mut frame)?, None);
     /// # Ok::<(), Box<dyn std::error::Error>>(())
     /// ```
