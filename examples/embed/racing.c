@@ -1,8 +1,8 @@
 /*
  * A guest that runs on, by hand: over words in two regions its driver brings up a disk and a console, writes a sector, puts out a
- * line, reads one that is typed, and offers a broken chain. The host does what the disk is asked for, and prints what each call
- * answers and what then stands in the guest's memory. Both read and write that memory by atomic accesses, as the CPUs of such a guest
- * and its host's threads do.
+ * line, reads one that is typed, and offers a broken chain. Between these each queue has more than a service's budget of chains, and
+ * the output more than its room. The host does what the disk is asked for, and prints what each call answers and what then stands in
+ * the guest's memory. Both read and write that memory by atomic accesses, as the CPUs of such a guest and its host's threads do.
  *
  * Its heap is open for kalyubos_guest_create and kalyubos_guest_destroy alone, and refuses each block once.
  */
@@ -14,14 +14,15 @@
 
 #include "kalyubos.h"
 
-enum { SECTOR = 512, SECTORS = 8, SIZE = 8, RAM_LEN = 0x10000, HIGH_LEN = 0x1000 };
+enum { SECTOR = 512, SECTORS = 8, SIZE = 8, CHAINS = 2, RAM_LEN = 0x10000, HIGH_LEN = 0x1000 };
 static const uint64_t RAM = 0x80000000, HIGH = 0x90000000;
 
 /* The queues' areas in RAM, 0x1000 apart from each other: a table, an available ring and a used ring (2.7). */
 enum { DISK_QUEUE = 0x1000, RECEIVE_QUEUE = 0x2000, TRANSMIT_QUEUE = 0x3000, AVAILABLE = 0x400, USED = 0x800 };
-/* A request's header, the line that is put out, and where typed bytes go. Its data are in the other region. */
-enum { HEADER = 0x4000, REQUEST_STATUS = 0x4010, LINE = 0x4100, TYPED = 0x4200, TYPED_LEN = 16 };
-enum { NEXT = 1, WRITE = 2, OUT = 1, UNTOLD = 0xff };
+/* Requests' headers and statuses, an identity, lines that are put out, and where typed bytes go. Data are in the other region. */
+enum { HEADER = 0x4000, REQUEST_STATUS = 0x4010, IDENTITY = 0x4080, LINE = 0x4100, TYPED = 0x4200 };
+enum { IDENTITY_LEN = 20, LINE_LEN = 64, TYPED_LEN = 16 };
+enum { NEXT = 1, WRITE = 2, IN = 0, OUT = 1, FLUSH = 4, GET_ID = 8, UNTOLD = 0xff };
 /* Offsets of registers (4.2.2). */
 enum { MAGIC = 0x000, DEVICE_ID = 0x008, DRIVER_FEATURES = 0x020, DRIVER_FEATURES_SEL = 0x024, QUEUE_SEL = 0x030,
        QUEUE_SIZE = 0x038, QUEUE_READY = 0x044, NOTIFY = 0x050, INTERRUPT_STATUS = 0x060, INTERRUPT_ACK = 0x064,
@@ -178,24 +179,47 @@ static void describe(uint64_t at, uint32_t index, uint64_t addr, uint32_t len, u
     put(RAM + at + 16 * index + 14, index + 1, 2);
 }
 
-/* Offers the chain from descriptor 0 on, the first chain of its queue (2.7.13), and notifies. */
-static uint32_t offer(uint8_t window, uint32_t number, uint64_t at)
+/* Puts the chain from a descriptor on on offer (2.7.13). */
+static void put_on_offer(uint64_t at, uint64_t head)
 {
-    put(RAM + at + AVAILABLE + 4, 0, 2);
-    put(RAM + at + AVAILABLE + 2, 1, 2);
+    uint64_t idx = get(RAM + at + AVAILABLE + 2, 2);
+    put(RAM + at + AVAILABLE + 4 + 2 * (idx % SIZE), head, 2);
+    put(RAM + at + AVAILABLE + 2, idx + 1, 2);
+}
+
+static uint32_t notify(uint8_t window, uint32_t number)
+{
     return kalyubos_guest_write(&guest, window, NOTIFY, 4, number, &pending);
 }
 
-static void show_used(const char *name, uint64_t at)
+static uint32_t offer(uint8_t window, uint32_t number, uint64_t at)
 {
-    printf("%s: used idx %" PRIu64 ", entry of head %" PRIu64 " with %" PRIu64 " bytes\n", name, get(RAM + at + USED + 2, 2),
-           get(RAM + at + USED + 4, 4), get(RAM + at + USED + 8, 4));
+    put_on_offer(at, 0);
+    return notify(window, number);
+}
+
+/* Prints the last entries of a used ring, so many. */
+static void show_used(const char *name, uint64_t at, unsigned count)
+{
+    uint64_t idx = get(RAM + at + USED + 2, 2);
+    printf("%s: used idx %" PRIu64, name, idx);
+    for (uint64_t i = idx - count; i < idx; i++) {
+        uint64_t entry = RAM + at + USED + 4 + 8 * (i % SIZE);
+        printf(", entry of head %" PRIu64 " with %" PRIu64 " bytes", get(entry, 4), get(entry + 4, 4));
+    }
+    putchar('\n');
 }
 
 static void show_pending(void)
 {
     printf("  waits: block %" PRIu32 ", console %" PRIu32 ", %" PRIu64 " bytes of output\n", pending.block, pending.console,
            pending.output);
+}
+
+static void go_on(void)
+{
+    printf("go on: %s\n", answer(kalyubos_guest_go_on(&guest, &pending)));
+    show_pending();
 }
 
 static void acknowledge(uint8_t window, const char *name)
@@ -222,19 +246,41 @@ static void serve(uint8_t tag)
     for (uint32_t i = 0; i < it.runs; i++) {
         printf("  a run of %" PRIu64 " bytes at %#" PRIx64 "\n", runs[i].len, runs[i].at);
         for (uint64_t j = 0; j < runs[i].len; j++, at++)
-            disk[at] = (uint8_t)get(runs[i].at + j, 1);
+            if (it.kind == KALYUBOS_IN)
+                put(runs[i].at + j, disk[at], 1);
+            else
+                disk[at] = (uint8_t)get(runs[i].at + j, 1);
     }
+}
+
+static void show_in_flight(void)
+{
+    uint64_t tags = 0;
+    printf("in flight: %s", answer(kalyubos_guest_in_flight(&guest, &tags)));
+    printf(", tags %#" PRIx64 "\n", tags);
+}
+
+/* Completes what the disk was asked for with a tag, in place. */
+static void complete(uint8_t tag)
+{
+    printf("completed: %s\n", answer(kalyubos_guest_completed(&guest, tag, false, &pending)));
+    show_pending();
+}
+
+/* The header of a request and its status, of so many requests, which lie behind each other (5.2.6). */
+static void put_request(uint32_t number, uint32_t type, uint64_t sector)
+{
+    put(RAM + HEADER + 32 * number, type, 8);
+    put(RAM + HEADER + 32 * number + 8, sector, 8);
+    put(RAM + REQUEST_STATUS + 32 * number, UNTOLD, 1);
 }
 
 static void write_a_sector(void)
 {
-    uint64_t tags = 0;
     begin(KALYUBOS_BLOCK, "disk");
     queue(KALYUBOS_BLOCK, 0, DISK_QUEUE);
     set(KALYUBOS_BLOCK, STATUS, 15);
-    put(RAM + HEADER, OUT, 8);
-    put(RAM + HEADER + 8, 3, 8);
-    put(RAM + REQUEST_STATUS, UNTOLD, 1);
+    put_request(0, OUT, 3);
     put_text(HIGH, "a sector");
     describe(DISK_QUEUE, 0, RAM + HEADER, 16, NEXT);
     describe(DISK_QUEUE, 1, HIGH, SECTOR, NEXT);
@@ -242,22 +288,58 @@ static void write_a_sector(void)
     printf("disk is notified: %s\n", answer(offer(KALYUBOS_BLOCK, 0, DISK_QUEUE)));
     show_pending();
     printf("a reset meanwhile: %s\n", answer(kalyubos_guest_write(&guest, KALYUBOS_BLOCK, STATUS, 4, 0, &pending)));
-    printf("in flight: %s", answer(kalyubos_guest_in_flight(&guest, &tags)));
-    printf(", tags %#" PRIx64 "\n", tags);
+    show_in_flight();
     serve(0);
-    printf("completed: %s\n", answer(kalyubos_guest_completed(&guest, 0, false, &pending)));
-    show_pending();
-    show_used("disk", DISK_QUEUE);
+    complete(0);
+    show_used("disk", DISK_QUEUE, 1);
     printf("disk: status %" PRIu64 ", sector 3 begins with \"%.8s\"\n", get(RAM + REQUEST_STATUS, 1), (char *)disk + 3 * SECTOR);
     acknowledge(KALYUBOS_BLOCK, "disk");
     printf("completed again: %s\n", answer(kalyubos_guest_completed(&guest, 0, false, &pending)));
     serve(0);
 }
 
-static void put_out_a_line(void)
+/* A GET_ID, which asks the host for nothing, a read and a flush: one more than the budget. The flush is completed first. */
+static void make_three_requests(void)
+{
+    static const uint32_t types[] = { GET_ID, IN, FLUSH };
+    for (uint32_t i = 0; i < 3; i++) {
+        put_request(i, types[i], types[i] == IN ? 3 : 0);
+        describe(DISK_QUEUE, 3 * i, RAM + HEADER + 32 * i, 16, NEXT);
+        put_on_offer(DISK_QUEUE, 3 * i);
+    }
+    describe(DISK_QUEUE, 1, RAM + IDENTITY, IDENTITY_LEN, NEXT | WRITE);
+    describe(DISK_QUEUE, 2, RAM + REQUEST_STATUS, 1, WRITE);
+    describe(DISK_QUEUE, 4, HIGH + SECTOR, SECTOR, NEXT | WRITE);
+    describe(DISK_QUEUE, 5, RAM + REQUEST_STATUS + 32, 1, WRITE);
+    describe(DISK_QUEUE, 7, RAM + REQUEST_STATUS + 64, 1, WRITE);
+    printf("three requests: %s\n", answer(notify(KALYUBOS_BLOCK, 0)));
+    show_pending();
+    show_in_flight();
+    go_on();
+    show_in_flight();
+    acknowledge(KALYUBOS_BLOCK, "disk");
+    for (uint8_t tag = 2; tag-- > 0;) {
+        serve(tag);
+        complete(tag);
+    }
+    show_used("disk", DISK_QUEUE, 3);
+    printf("disk: statuses");
+    for (unsigned i = 0; i < 3; i++)
+        printf(" %" PRIu64, get(RAM + REQUEST_STATUS + 32 * i, 1));
+    printf(", it is \"%.20s\", and the sector begins with \"%.8s\"\n", (char *)place(RAM + IDENTITY), (char *)place(HIGH + SECTOR));
+    acknowledge(KALYUBOS_BLOCK, "disk");
+}
+
+static void take_output(void)
 {
     char text[64];
     size_t count = 0;
+    printf("output: %s", answer(kalyubos_guest_take_output(&guest, (uint8_t *)text, sizeof text, &count)));
+    printf(", %zu bytes: %.*s", count, (int)count, text);
+}
+
+static void put_out_a_line(void)
+{
     begin(KALYUBOS_CONSOLE, "console");
     queue(KALYUBOS_CONSOLE, 0, RECEIVE_QUEUE);
     queue(KALYUBOS_CONSOLE, 1, TRANSMIT_QUEUE);
@@ -266,9 +348,30 @@ static void put_out_a_line(void)
     describe(TRANSMIT_QUEUE, 0, RAM + LINE, 17, 0);
     printf("console is notified: %s\n", answer(offer(KALYUBOS_CONSOLE, 1, TRANSMIT_QUEUE)));
     show_pending();
-    printf("output: %s", answer(kalyubos_guest_take_output(&guest, (uint8_t *)text, sizeof text, &count)));
-    printf(", %zu bytes: %.*s", count, (int)count, text);
-    show_used("console", TRANSMIT_QUEUE);
+    take_output();
+    show_used("console", TRANSMIT_QUEUE, 1);
+    acknowledge(KALYUBOS_CONSOLE, "console");
+}
+
+/* Two lines, of which the second one doesn't fit behind the first: it stays on offer until that is taken. */
+static void put_out_too_much(void)
+{
+    static const char *const lines[] = { "one two three four five six seven eight\n", "nine ten eleven twelve thirteen\n" };
+    for (uint32_t i = 0; i < 2; i++) {
+        put_text(RAM + LINE + LINE_LEN * i, lines[i]);
+        describe(TRANSMIT_QUEUE, i, RAM + LINE + LINE_LEN * i, (uint32_t)strlen(lines[i]), 0);
+        put_on_offer(TRANSMIT_QUEUE, i);
+    }
+    printf("two lines: %s\n", answer(notify(KALYUBOS_CONSOLE, 1)));
+    show_pending();
+    go_on();
+    printf("an acknowledgement meanwhile: %s\n",
+           answer(kalyubos_guest_write(&guest, KALYUBOS_CONSOLE, INTERRUPT_ACK, 4, 1, &pending)));
+    show_pending();
+    take_output();
+    go_on();
+    take_output();
+    show_used("console", TRANSMIT_QUEUE, 2);
     acknowledge(KALYUBOS_CONSOLE, "console");
 }
 
@@ -281,13 +384,34 @@ static void read_a_line(void)
     printf("typed: %s", answer(kalyubos_guest_input(&guest, (const uint8_t *)"ten\n", 4, &took, &pending)));
     printf(", %zu bytes taken\n", took);
     show_pending();
-    show_used("console", RECEIVE_QUEUE);
+    show_used("console", RECEIVE_QUEUE, 1);
     printf("console: the buffer has \"");
     for (unsigned i = 0; i < 3; i++)
         putchar((int)get(RAM + TYPED + i, 1));
     printf("\" and %" PRIu64 "\n", get(RAM + TYPED + 3, 1));
     printf("another size: %s\n", answer(kalyubos_guest_resize(&guest, 100, 30, &pending)));
     show_pending();
+}
+
+/* A line that fills two buffers, the budget, and a part of a third one. */
+static void read_a_long_line(void)
+{
+    static const char line[] = "a line that fills two buffers and more\n";
+    size_t took = 0;
+    acknowledge(KALYUBOS_CONSOLE, "console");
+    for (uint32_t i = 0; i < 3; i++) {
+        describe(RECEIVE_QUEUE, i, RAM + TYPED + TYPED_LEN * i, TYPED_LEN, WRITE);
+        put_on_offer(RECEIVE_QUEUE, i);
+    }
+    printf("three buffers for input: %s\n", answer(notify(KALYUBOS_CONSOLE, 0)));
+    show_pending();
+    printf("typed: %s", answer(kalyubos_guest_input(&guest, (const uint8_t *)line, strlen(line), &took, &pending)));
+    printf(", %zu bytes taken\n", took);
+    show_pending();
+    show_used("console", RECEIVE_QUEUE, 2);
+    go_on();
+    show_used("console", RECEIVE_QUEUE, 3);
+    printf("console: the buffers have \"%.38s\" and %" PRIu64 "\n", (char *)place(RAM + TYPED), get(RAM + TYPED + 38, 1));
 }
 
 static void show_fault(void)
@@ -302,9 +426,8 @@ static void show_fault(void)
 static void make_a_mistake(void)
 {
     show_fault();
-    put(RAM + DISK_QUEUE + AVAILABLE + 6, SIZE, 2);
-    put(RAM + DISK_QUEUE + AVAILABLE + 2, 2, 2);
-    printf("a head outside the table: %s\n", answer(kalyubos_guest_write(&guest, KALYUBOS_BLOCK, NOTIFY, 4, 0, &pending)));
+    put_on_offer(DISK_QUEUE, SIZE);
+    printf("a head outside the table: %s\n", answer(notify(KALYUBOS_BLOCK, 0)));
     show_pending();
     printf("disk: status %#" PRIx32 "\n", reg(KALYUBOS_BLOCK, STATUS));
     show_fault();
@@ -377,16 +500,21 @@ int main(void)
 {
     struct kalyubos_words words[] = { { ram, RAM_LEN / 8 }, { high, HIGH_LEN / 8 } };
     struct kalyubos_slot slot = described();
+    struct kalyubos_guest_config config = kalyubos_guest_config(&slot, words, 2);
     uint32_t value = 0;
+    config.chains = CHAINS;
     refuse();
     refuse_memory();
-    printf("create: %s\n", answer(create(kalyubos_guest_config(&slot, words, 2))));
+    printf("create: %s\n", answer(create(config)));
     printf("  the words are %s\n", words[0].words == NULL && words[1].len == 0 ? "taken" : "left");
     printf("create again: %s\n", answer(create(kalyubos_guest_config(&slot, words, 2))));
     printf("window 2: %s\n", answer(kalyubos_guest_read(&guest, KALYUBOS_DEVICE, MAGIC, 4, &value)));
     write_a_sector();
+    make_three_requests();
     put_out_a_line();
+    put_out_too_much();
     read_a_line();
+    read_a_long_line();
     make_a_mistake();
     printf("nothing is due: %s\n", answer(kalyubos_guest_go_on(&guest, &pending)));
     printf("hold: %s\n", answer(kalyubos_guest_hold(&guest, &pending)));

@@ -8,6 +8,7 @@ mod runs;
 mod sessions;
 mod snapshots;
 mod stops;
+mod texts;
 
 use crate::calls::answer::{put_number, put_word};
 use crate::calls::memory::regions_of;
@@ -117,6 +118,7 @@ impl<B: Allocator> Subject for Guests<'_, B> {
             "guests" => self.ask(words, answer),
             "up" => self.bring_up(words, answer),
             "event" => self.plan(words, answer),
+            "replay" => self.replay(words, answer),
             "used" => put_number(answer, self.local.used() as u64),
             "board" => self.make_board(words, answer),
             "session" => self.make_session(words, answer),
