@@ -1,2 +1,5 @@
-pub mod Lodging
+mod Lending
+mod Loans
+mod Lodging
+mod Taking
 pub mod Walking
