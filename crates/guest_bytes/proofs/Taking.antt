@@ -22,8 +22,6 @@ use denote.Memory.{lone}
 use denote.RattleType.{RattleType}
 use denote.RawPtr.{Ptr, ptr_val, block_ptr, null_ptr}
 use denote.Triple.Call.{calls_at_last}
-use denote.Triple.Clauses.{closing}
-use denote.Triple.Spec.{Meets}
 use denote.Triple.Statement.{Triple}
 use Rattle.std_alloc.proofs.ResultValues.{and_tt}
 use Rattle.guest_bytes.specs.Loaned.{loaned, IsRun}
@@ -31,7 +29,7 @@ use Rattle.guest_bytes.specs.contracts.lent.lend_run.Key.{name as run_name}
 use Rattle.guest_bytes.proofs.Lending.{R, args, Runs, at_run, run_goes, run_lends}
 use Rattle.guest_bytes.proofs.Loans.{Loan, H, word}
 use Rattle.guest_bytes.proofs.Lodging.{Lent}
-use Rattle.guest_bytes.proofs.Walking.{called, fn_of, UsesUp, ensuring, Ends, Walk, walks_by_value}
+use Rattle.guest_bytes.proofs.Walking.{called, fn_of, Ends, Ensures, Walk, walks_by_value}
 
 ptr_typed : (p : Ptr) → T (has_ty ty_ptr (ptr_val p)) × WT (ptr_val p)
 ptr_typed null_ptr = (tt, record { fits = lit< tt })
@@ -140,8 +138,7 @@ module _ (S : Loan) where
   pub takes : (casts : Bool) {M : Type 1} (𝓤 : Ura M) (𝓛 : Logic 𝓤) (𝓜 : Model 𝓤 𝓛.H) (𝓡 : Running 𝓤 𝓛.H 𝓜)
       (name : Callee) → Closed 𝓤 𝓛.H (tables 𝓤 𝓛.H 𝓜 𝓡 𝓡.env).C (tables 𝓤 𝓛.H 𝓜 𝓡 𝓡.env).Λ name (code casts)
       → Triple 𝓤 (𝓡.run (𝓡.env (run_name (args S.of)))) (Runs S.of 𝓛 𝓜.mem 𝓡.returns)
-      → Meets 𝓛 (UsesUp (H S) To Said).signature (𝓡.run (𝓡.env name))
-      (closing 𝓛 (UsesUp (H S) To Said) (ensuring (H S) To Said 𝓤 𝓛))
+      → Ensures (H S) To Said 𝓤 𝓛 𝓜 𝓡 name
   unfolding tables_of
   takes casts 𝓤 𝓛 𝓜 𝓡 name closed run_meets =
       walks_by_value (H S) To Said 𝓤 𝓛 𝓜 𝓡 name (code casts) closed (λ d. tt) (λ κs d f. refl)

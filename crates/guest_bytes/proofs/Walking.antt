@@ -1,8 +1,8 @@
 -- How a walk through the code of a function shows its statement. Assumes `Logic`.
 --     called, walked_through     what the calls of the code mean; a function meets its clauses if a walk does
 --     fn_of                      a function of no lifetimes and no type parameters
---     UsesUp X Y Said            a function of one parameter, an X, that it uses up, and of the result, a Y: what it ensures of both
---     Walk, walks_by_value       its walk begins with what is owned of the parameter, and ends with what is owned of the result
+--     Ensures X Y Said           a function uses up its one parameter, an X, and ensures something of it and of the result, a Y
+--     Walk, walks_by_value       its walk begins with what is owned of the parameter, and ends with what is owned of the result (`Ends`)
 use seplogic.Ra.Ura.{Ura}
 use Prim.Native.Nat.{ℕ}
 use mathlib.Core.List.{List, [], ◌∷◌, ◌++◌}
@@ -56,7 +56,7 @@ fn_of params locals body = record {
 }
 
 module _ (X Y : RattleType) (Said : X.Denot → Y.Denot → Type 0) where
-  abbrev pub UsesUp : Ended
+  abbrev UsesUp : Ended
   UsesUp = record {
     signature = record {
       lifetimes = 0;
@@ -71,7 +71,7 @@ module _ (X Y : RattleType) (Said : X.Denot → Y.Denot → Type 0) where
   stayed = (stay_dropped (plain (λ _. X)) yes, tt)
 
   module _ {M : Type 1} (𝓤 : Ura M) (𝓛 : Logic 𝓤) where
-    abbrev pub ensuring : Clauses 𝓤 UsesUp
+    abbrev ensuring : Clauses 𝓤 UsesUp
     ensuring = λ κs args. record {
       ghost = Unit {0};
       requires = λ _. emp 𝓤;
@@ -92,12 +92,17 @@ module _ (X Y : RattleType) (Said : X.Denot → Y.Denot → Type 0) where
         suffices ! _ (ends_at 𝓛 UsesUp stayed ensuring z v y (last z.0.3.0, tt) (tt, tt)) $ says ! said $
         nothing ! $ nothing ! $ fjoin ! $ join ! $ nothing ! $ join ! $ done !
 
-    pub walks_by_value : (𝓜 : Model 𝓤 𝓛.H) (𝓡 : Running 𝓤 𝓛.H 𝓜) (name : Callee) (function : Fn)
-        → Closed 𝓤 𝓛.H (tables 𝓤 𝓛.H 𝓜 𝓡 𝓡.env).C (tables 𝓤 𝓛.H 𝓜 𝓡 𝓡.env).Λ name function
-        → ((x : X.Denot) → Last (X.exit yes) x) → Silent 𝓛 0 (plain (λ _. X)) yes → Walk (called 𝓤 𝓛 𝓜 𝓡) function
-        → Meets 𝓛 UsesUp.signature (𝓡.run (𝓡.env name)) (closing 𝓛 UsesUp ensuring)
-    walks_by_value 𝓜 𝓡 name function closed last silent walk =
-        walked_through 𝓤 𝓛 𝓜 𝓡 name function UsesUp stayed ensuring closed
-        (Goes-dropped 𝓛 0 (plain (λ _. X)) yes silent, tt)
-        (λ z. qed 𝓛 ((‵ ftrue ⊛ ‵ (fsep (X.own_val z.0.3.0 z.0.4.0) ftrue)) ∷ raw (emp 𝓤) ∷ []) ∵ split ! $
-        drop ! $ fsplit ! $ keep ! (0 ∷ []) $ by ! (walk z.0.3.0 z.0.4.0 _ (ends last z)))
+    module _ (𝓜 : Model 𝓤 𝓛.H) (𝓡 : Running 𝓤 𝓛.H 𝓜) (name : Callee) where
+      -- the function of that name meets it
+      abbrev pub Ensures : Type 1
+      Ensures = Meets 𝓛 UsesUp.signature (𝓡.run (𝓡.env name)) (closing 𝓛 UsesUp ensuring)
+
+      pub walks_by_value : (function : Fn)
+          → Closed 𝓤 𝓛.H (tables 𝓤 𝓛.H 𝓜 𝓡 𝓡.env).C (tables 𝓤 𝓛.H 𝓜 𝓡 𝓡.env).Λ name function
+          → ((x : X.Denot) → Last (X.exit yes) x) → Silent 𝓛 0 (plain (λ _. X)) yes
+          → Walk (called 𝓤 𝓛 𝓜 𝓡) function → Ensures
+      walks_by_value function closed last silent walk =
+          walked_through 𝓤 𝓛 𝓜 𝓡 name function UsesUp stayed ensuring closed
+          (Goes-dropped 𝓛 0 (plain (λ _. X)) yes silent, tt)
+          (λ z. qed 𝓛 ((‵ ftrue ⊛ ‵ (fsep (X.own_val z.0.3.0 z.0.4.0) ftrue)) ∷ raw (emp 𝓤) ∷ []) ∵ split ! $
+          drop ! $ fsplit ! $ keep ! (0 ∷ []) $ by ! (walk z.0.3.0 z.0.4.0 _ (ends last z)))
