@@ -14,10 +14,9 @@ ghost use Rattle.board_ffi.specs.Judging.{Judges, region_told, slot_told};
 use crate::codes::{BAD_SIZE, DONE, of_fault};
 use crate::config::{ToldConfig, has_own_size};
 use crate::loans::are_lent;
-use crate::slot::{
-    Slot, are_devices, are_outlets, are_sized, guests, sized, with_devices, with_outlets,
-};
+use crate::slot::{are_devices, are_outlets, are_sized, guests, sized, with_devices, with_outlets};
 use board::{BoardFault, CacheFault, SlotFault, SlotSpec, check_slots};
+use c_values::Slot;
 use guest_memory::MemoryFault;
 use sector_cache::are_whole_sectors;
 use session::SessionFault;
