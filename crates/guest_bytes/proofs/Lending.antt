@@ -38,6 +38,7 @@ use Rattle.std_alloc.specs.declared.vec.lodged.Lodged.{Lodged}
 use Rattle.guest_bytes.specs.Loaned.{loaned, IsRun}
 use Rattle.guest_bytes.proofs.Lodging.{Lent, Good, Made, takes}
 use prog.Model.{Model}
+use prog.Wired.{Wired}
 use prog.Wp.{WpFn, Closed, Tables}
 use contract.Running.{Running, tables, tables_of}
 use sound.WpLaws.{fm_of}
@@ -55,6 +56,8 @@ use Rattle.std.proofs.alloc.Calls.{Goes-blank}
 use Rattle.guest_bytes.specs.contracts.lent.lend_run.Key.{name as run_name}
 use Rattle.guest_bytes.proofs.Walking.{called, fn_of, walked_through}
 use Rattle.guest_bytes.specs.contracts.lent.lend_run as F
+use Rattle.guest_bytes.proofs.lent.lend_run.Met as run_met
+use Rattle.guest_bytes.proofs.lent.lend_run.Symbol as lend_run
 
 -- a value, as a call passes it
 abbrev pub cell : RattleType → RattleType
@@ -236,12 +239,12 @@ module _ (S : Lendable) where
 
   pub lends : {M : Type 1} (𝓤 : Ura M) (𝓛 : Logic 𝓤) (𝓜 : Model 𝓤 𝓛.H) (𝓡 : Running 𝓤 𝓛.H 𝓜) (name : Callee)
       → Closed 𝓤 𝓛.H (tables 𝓤 𝓛.H 𝓜 𝓡 𝓡.env).C (tables 𝓤 𝓛.H 𝓜 𝓡 𝓡.env).Λ name code
-      → Triple 𝓤 (𝓡.run (𝓡.env (run_name (args S)))) (Runs S 𝓛 𝓜.mem 𝓡.returns)
+      → Wired 𝓡.env lend_run.code
       → Meets 𝓛 ended.signature (𝓡.run (𝓡.env name)) (closing 𝓛 ended (clauses 𝓛))
   unfolding tables_of
-  lends 𝓤 𝓛 𝓜 𝓡 name closed run_meets =
+  lends 𝓤 𝓛 𝓜 𝓡 name closed wired =
       walked_through 𝓤 𝓛 𝓜 𝓡 name code ended stayed (clauses 𝓛) closed (
         Goes-blank 𝓛 0 (plain (λ _. RawPtr)) yes (λ κs x f. tt),
         (Goes-blank 𝓛 0 (plain (λ _. usize)) yes (λ κs x f. tt), tt),
       )
-      (walk 𝓛 𝓜.mem 𝓡.returns (called 𝓤 𝓛 𝓜 𝓡) run_meets)
+      (walk 𝓛 𝓜.mem 𝓡.returns (called 𝓤 𝓛 𝓜 𝓡) (run_met.met 𝓤 𝓛 𝓜 𝓡 wired (R S) S.laws))

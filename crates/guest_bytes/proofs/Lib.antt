@@ -1,5 +1,6 @@
 mod Lending
 mod Loans
 mod Lodging
+mod Structs
 mod Taking
 pub mod Walking

@@ -8,6 +8,7 @@ use mir.Val.{Val, WT, has_ty, vstruct, of_list}
 use base.Logic.{SProp, ent}
 use prog.Memory.{Memory}
 use prog.Model.{Model}
+use prog.Wired.{Wired}
 use prog.Routine.{Routine}
 use prog.Wp.{WpFn, Closed, Tables}
 use contract.Monad.{Fun}
@@ -26,6 +27,8 @@ use denote.Triple.Statement.{Triple}
 use Rattle.std_alloc.proofs.ResultValues.{and_tt}
 use Rattle.guest_bytes.specs.Loaned.{loaned, IsRun}
 use Rattle.guest_bytes.specs.contracts.lent.lend_run.Key.{name as run_name}
+use Rattle.guest_bytes.proofs.lent.lend_run.Met as run_met
+use Rattle.guest_bytes.proofs.lent.lend_run.Symbol as lend_run
 use Rattle.guest_bytes.proofs.Lending.{R, args, Runs, at_run, run_goes, run_lends}
 use Rattle.guest_bytes.proofs.Loans.{Loan, H, word}
 use Rattle.guest_bytes.proofs.Lodging.{Lent}
@@ -137,9 +140,9 @@ module _ (S : Loan) where
 
   pub takes : (casts : Bool) {M : Type 1} (𝓤 : Ura M) (𝓛 : Logic 𝓤) (𝓜 : Model 𝓤 𝓛.H) (𝓡 : Running 𝓤 𝓛.H 𝓜)
       (name : Callee) → Closed 𝓤 𝓛.H (tables 𝓤 𝓛.H 𝓜 𝓡 𝓡.env).C (tables 𝓤 𝓛.H 𝓜 𝓡 𝓡.env).Λ name (code casts)
-      → Triple 𝓤 (𝓡.run (𝓡.env (run_name (args S.of)))) (Runs S.of 𝓛 𝓜.mem 𝓡.returns)
+      → Wired 𝓡.env lend_run.code
       → Ensures (H S) To Said 𝓤 𝓛 𝓜 𝓡 name
   unfolding tables_of
-  takes casts 𝓤 𝓛 𝓜 𝓡 name closed run_meets =
+  takes casts 𝓤 𝓛 𝓜 𝓡 name closed wired =
       walks_by_value (H S) To Said 𝓤 𝓛 𝓜 𝓡 name (code casts) closed (λ d. tt) (λ κs d f. refl)
-      (walk 𝓛 𝓜.mem 𝓡.returns (called 𝓤 𝓛 𝓜 𝓡) run_meets casts)
+      (walk 𝓛 𝓜.mem 𝓡.returns (called 𝓤 𝓛 𝓜 𝓡) (run_met.met 𝓤 𝓛 𝓜 𝓡 wired (R S.of) S.of.laws) casts)

@@ -1,9 +1,9 @@
 -- `empty` makes a loan of no words.
 use Rattle.guest_bytes.proofs.Loans.{empties}
-use Rattle.guest_bytes.proofs.word_loan.Loaning.{loan}
+use Rattle.guest_bytes.proofs.Structs.{word_loan}
 use Rattle.guest_bytes.specs.contracts.word_loan.WordLoan.empty.Key.{name as #self}
 use Rattle.guest_bytes.proofs.word_loan.WordLoan.empty.Statement as stated
 use Rattle.guest_bytes.proofs.word_loan.WordLoan.empty.Code as code
 
 pub empty_spec : {M : Type 1} → stated.statement M
-empty_spec 𝓤 𝓛 𝓜 𝓡 wired = empties loan 𝓤 𝓛 𝓜 𝓡 #self (code.unfolded 𝓤 𝓛.H 𝓜 𝓡 wired)
+empty_spec 𝓤 𝓛 𝓜 𝓡 wired = empties word_loan 𝓤 𝓛 𝓜 𝓡 #self (code.unfolded 𝓤 𝓛.H 𝓜 𝓡 wired)
