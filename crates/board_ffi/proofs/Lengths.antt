@@ -5,7 +5,7 @@ use Rattle.guest_memory.specs.declared.spec.RegionSpec.{RegionSpec}
 use Rattle.board.specs.Lent.{all_regions}
 use Rattle.session.specs.Session.{slots_of}
 use Rattle.session.proofs.Loans.{lens}
-use Rattle.board_ffi.specs.declared.slot.Slot.{Slot}
+use Rattle.c_values.specs.declared.slot.Slot.{Slot}
 use Rattle.c_values.specs.Slot.{regions_of}
 use Rattle.board_ffi.specs.Config.{guests_of, region_lens}
 

@@ -15,8 +15,8 @@ use Rattle.session.specs.Refusing.{AreDevices, AreOutlets, IsLentRefusedFor, IsR
 use Rattle.board_ffi.specs.declared.config.Config.{Config}
 use Rattle.board_ffi.specs.declared.config.ToldConfig.{ToldConfig}
 use Rattle.board_ffi.specs.declared.config.ToldLoan.{ToldLoan}
-use Rattle.board_ffi.specs.declared.device.Device.{Device}
-use Rattle.board_ffi.specs.declared.slot.Slot.{Slot}
+use Rattle.c_values.specs.declared.slot.Device.{Device}
+use Rattle.c_values.specs.declared.slot.Slot.{Slot}
 use Rattle.board_ffi.specs.Codes.{fault_code}
 
 -- who has the disk of a slot

@@ -8,7 +8,7 @@ use Rattle.session.specs.declared.fault.SessionFault.TheVariants.{BadDevice, Bad
 use Rattle.session.specs.Refusing.{has_bad_device}
 use Rattle.board_ffi.specs.declared.config.Config.{Config}
 use Rattle.board_ffi.specs.declared.config.ToldConfig.{ToldConfig}
-use Rattle.board_ffi.specs.declared.slot.Slot.{Slot}
+use Rattle.c_values.specs.declared.slot.Slot.{Slot}
 use Rattle.c_values.specs.Slot.{slot_size}
 use Rattle.board_ffi.specs.Config.{Describes, IsVerdict, Verdict, Bad, config_size, guest_of, OtherSize, RunsOn, verdict_code}
 

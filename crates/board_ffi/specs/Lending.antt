@@ -6,11 +6,7 @@ use Rattle.board_ffi.specs.declared.handle.Handle.{Handle}
 use Rattle.board_ffi.specs.contracts.handle.Handle as handle
 use Rattle.board_ffi.specs.Handle.{session_row}
 
--- the handle, of this session
-abbrev pub with_session : Handle → SessionState → Handle
-with_session board session = record { at = board.at; alloc = board.alloc; session = Some session }
-
 -- a handle ends with the last value of the session that it lent, or as it was where it has none
 abbrev pub LendsSession : MutBor Handle → Option (MutBor SessionState) → Fml
 LendsSession board lent =
-    LendsIf handle.the_row session_row board lent (with_session board.now) board.now
+    LendsIf handle.the_row session_row board lent (λ session. record board.now { session = Some session }) board.now

@@ -4,8 +4,8 @@ ghost use Rattle.std.specs.Prelude.{◌≡◌, ◌≢◌, ◌↔◌, [], IsTrue}
 ghost use Rattle.chain.specs.Budget.{IsSpent};
 ghost use Rattle.board_ffi.specs.Config.{AreSized, budget_of, config_size};
 
-use crate::slot::{Slot, are_sized};
-use c_values::budget;
+use crate::slot::are_sized;
+use c_values::{Slot, budget};
 use guest_bytes::Loan;
 use session::Budget;
 

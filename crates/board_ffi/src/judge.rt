@@ -15,10 +15,11 @@ use crate::codes::{BAD_SIZE, DONE, RUNS_ON, of_fault};
 use crate::config::{ToldConfig, has_own_size};
 use crate::loans::are_lent;
 use crate::slot::{
-    Slot, are_devices, are_outlets, are_sized, guests, sized, stand_still, standing, with_devices,
+    are_devices, are_outlets, are_sized, guests, sized, stand_still, standing, with_devices,
     with_outlets,
 };
 use board::{BoardFault, CacheFault, SlotFault, SlotSpec, check_slots};
+use c_values::Slot;
 use guest_memory::MemoryFault;
 use sector_cache::are_whole_sectors;
 use session::SessionFault;

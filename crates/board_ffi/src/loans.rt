@@ -6,8 +6,7 @@ ghost use Rattle.board_ffi.specs.Config.{AreLent, guests_of, lent_bytes, region_
 ghost use Rattle.board_ffi.specs.Create.{TakesFront};
 
 use crate::config::ToldLoan;
-use crate::slot::Slot;
-use c_values::regions;
+use c_values::{Slot, regions};
 use guest_bytes::Loan;
 use guest_memory::RegionSpec;
 use std::alloc::{AllocError, Global};

@@ -1,7 +1,6 @@
 pub mod AsBox
 pub mod Crossing
-pub mod Emptying
-pub mod Filling
+pub mod Making
 pub mod Holder
 pub mod Lending
 pub mod OneByOne

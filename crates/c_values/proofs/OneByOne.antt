@@ -20,7 +20,7 @@ behind_same xs ys i x same = drop-set-lt (i + 1) xs i x (omega arith) ∙ sym (d
     ∙ ap (drop 1) same ∙ drop-drop 1 i ys
 
 -- the one there is the one that was there
-pub same_there : {X : Type 0} (xs ys : List X) (i : ℕ) (x : X) → drop i xs ≡ drop i ys → x ≡ get_or xs i x
+same_there : {X : Type 0} (xs ys : List X) (i : ℕ) (x : X) → drop i xs ≡ drop i ys → x ≡ get_or xs i x
     → x ≡ get_or ys i x
 same_there xs ys i x same is =
     let here : i + 0 ≡ i = omega arith in
@@ -28,7 +28,7 @@ same_there xs ys i x same is =
     ∙ get_or-drop i ys 0 x ∙ ap (λ k. get_or ys k x) here
 
 -- one more is listed
-pub listed : {X Y : Type 0} (f : X → Y) (ys : List X) (i : ℕ) (x : X) (so_far : List Y) → i < length ys
+listed : {X Y : Type 0} (f : X → Y) (ys : List X) (i : ℕ) (x : X) (so_far : List Y) → i < length ys
     → x ≡ get_or ys i x → so_far ≡ map f (take i ys) → so_far ++ (f x ∷ []) ≡ map f (take (i + 1) ys)
 listed f ys i x so_far few is same =
     let next : i + 1 ≡ suc i = omega arith in
@@ -59,6 +59,19 @@ module _ {X : Type 0} (IsEmpty : X → Type 0) (old loans : List X) where
   pub all_taken : (place : ℕ) → AreTakenTo IsEmpty place old loans → length old ≤ place → All IsEmpty loans
   all_taken place before enough =
       subst (All IsEmpty) (take_all place loans (omega (arith, before.1, enough))) before.2
+
+-- one more is taken, and what it had is listed behind what those before it had
+pub one_more_taken : {X Y V : Type 0} (IsEmpty : X → Type 0) (had : X → Y) (has : V → Y) (old loans : List X) (place : ℕ)
+    (loan left : X) (row more : List V) (next : V) → place < length old
+    → (map has row ≡ map had (take place old)) × AreTakenTo IsEmpty place old loans
+    → loan ≡ get_or loans place loan → more ≡ row ++ (next ∷ []) → has next ≡ had loan → IsEmpty left
+    → (map has more ≡ map had (take (place + 1) old)) × AreTakenTo IsEmpty (place + 1) old (set loans place left)
+one_more_taken IsEmpty had has old loans place loan left row more next few before there longer same empty =
+    let here = same_there loans old place loan before.1.0 there in (
+      ap (map has) longer ∙ map-append has row (next ∷ []) ∙ ap (λ y. map has row ++ (y ∷ [])) same
+          ∙ listed had old place loan (map has row) few here before.0,
+      taken_next IsEmpty old loans place left few before.1 empty,
+    )
 
 -- none is taken
 pub none_taken : {X : Type 0} (IsEmpty : X → Type 0) (loans : List X) → TakesFirst IsEmpty loans loans

@@ -1,30 +1,25 @@
 -- A function that takes a holder apart: it tests the pointer, and moves two fields where it isn't null. What they own goes with them.
-use mathlib.Core.Path.{◌≡◌, ◌∙◌, refl, sym, subst}
+use mathlib.Core.Path.{◌≡◌, ◌∙◌, refl}
 use mathlib.Core.List.{List, [], ◌∷◌, ◌++◌}
 use seplogic.Ra.Ura.{Ura}
 use lib.Dec.{lit<}
 use mir.Syntax.{Fn, Body, local, value_local, place, field, copy, int, w8, w64, ty_bool, ty_ptr, ptr_eq, op2, rv_opd, aggregate, assign, cond, skip, seq, return}
 use mir.Val.{Val, of_list}
-use base.Logic.{SProp, ent, sep, emp, never_e, id⊢}
-use base.Fml.{ftrue, ffalse, fsep}
+use base.Logic.{SProp, ent, sep, never_e, id⊢}
+use base.Fml.{ftrue, ffalse}
 use prog.Model.{Model}
 use prog.Routine.{Callee}
 use prog.Wp.{WpFn, Closed, Tables}
 use types.Logic.{Logic, sem}
-use contract.Monad.{fact}
 use contract.Running.{Running, tables}
-use types.Kit.{Item, ‵, raw, ◌⊛◌, ◌$◌, ◌∵◌, !, qed, by, at_ret, given, learn, keep, drop, use0, use1, split, fsplit, fpick, suffices}
+use types.Kit.{prop, regoal, Item, ‵, ◌$◌, ◌∵◌, !, qed, by, at_ret, given, learn, drop, use0, use1, fsplit, fpick}
 use types.Match.{live}
 use types.Part.{whole, sub, agg}
 use types.Run.{stop, fld, bin, lit, no_more, and_then, of_opd, first, branches, skips, exec, returns, returns_within, enter}
 use types.ByLocal.{alloc_all, pass_all, free_all, look_at, get, get_in, sets, env}
-use denote.Exit.{yes}
 use denote.Memory.{lone}
+use denote.RattleType.{RattleType}
 use denote.RawPtr.{Ptr, block_ptr, null_ptr, Testable, tests_null}
-use denote.Signature.{plain}
-use denote.Triple.Clauses.{Clauses, Ended, closing}
-use denote.Triple.Spec.{Meets}
-use denote.Triple.Walked.{Stays, stay_dropped, walk_of, ends_at, Goes-dropped}
 use Rattle.std.specs.Prelude.{Option, Some, None, MatchOption}
 use Rattle.std.specs.Box.Ownership.{box_owns}
 use Rattle.std.specs.contracts.alloc.Global as Heap
@@ -34,7 +29,7 @@ use Rattle.std.proofs.alloc.Calls.{Fits, token}
 use Rattle.std_alloc.proofs.ResultValues.{and_tt}
 use Rattle.std_alloc.proofs.BoxSteps.Form.{D, R, handle, box_typed}
 use Rattle.std_alloc.proofs.BoxSteps.Steps.{box_in}
-use Rattle.guest_bytes.proofs.Walking.{called, hands_over, walked_through}
+use Rattle.guest_bytes.proofs.Walking.{called, fn_of, Ends, Ensures, Walk, walks_by_value}
 use Rattle.c_values.specs.Handle.{held}
 use Rattle.c_values.proofs.Holder.{Holder, Held, E, H, X, Of, word, handle_out, tested}
 
@@ -46,51 +41,26 @@ module _ (S : Holder) where
       (seq (assign (place 0 []) (aggregate (int w8 1 ∷ copy (place 6 []) ∷ []))) return))
 
   abbrev code : Fn
-  code = record {
-    lifetimes = 0;
-    outlives = [];
-    ty_params = [];
-    givens = 0;
-    params = 1;
-    locals = local (lone (OP.the_row (Of S)).mir) value_local ∷ local (lone (H S).mir) value_local
-        ∷ local ty_ptr value_local ∷ local (lone Heap.the_row.mir) value_local ∷ local ty_bool value_local
-        ∷ local ty_ptr value_local ∷ local (lone (Of S).mir) value_local ∷ [];
-    body = seq (assign (place 2 []) (rv_opd (copy (place 1 (field 0 ∷ [])))))
-        (seq (assign (place 3 []) (rv_opd (copy (place 1 (field 1 ∷ [])))))
-        (seq (assign (place 4 []) (op2 ptr_eq (copy (place 2 [])) (int w64 0)))
-        (seq (cond (copy (place 4 [])) (seq (assign (place 0 []) (aggregate (int w8 0 ∷ []))) return) skip)
-        rest)));
-  }
+  code = fn_of 1
+      (local (lone (OP.the_row (Of S)).mir) value_local ∷ local (lone (H S).mir) value_local
+      ∷ local ty_ptr value_local ∷ local (lone Heap.the_row.mir) value_local ∷ local ty_bool value_local
+      ∷ local ty_ptr value_local ∷ local (lone (Of S).mir) value_local ∷ [])
+      (seq (assign (place 2 []) (rv_opd (copy (place 1 (field 0 ∷ [])))))
+      (seq (assign (place 3 []) (rv_opd (copy (place 1 (field 1 ∷ [])))))
+      (seq (assign (place 4 []) (op2 ptr_eq (copy (place 2 [])) (int w64 0)))
+      (seq (cond (copy (place 4 [])) (seq (assign (place 0 []) (aggregate (int w8 0 ∷ []))) return) skip)
+      rest))))
 
-  abbrev ended : Ended
-  ended = record {
-    signature = record {
-      lifetimes = 0;
-      outlives = [];
-      params = plain (λ _. H S) ∷ [];
-      result = plain (λ _. OP.the_row (Of S));
-    };
-    kept = (yes, tt);
-  }
+  abbrev To : RattleType
+  To = OP.the_row (Of S)
 
-  abbrev stayed : Stays ended.signature.params ended.kept
-  stayed = (stay_dropped (plain (λ _. H S)) yes, tt)
+  abbrev Said : S.D → To.Denot → Type 0
+  Said handle res = MatchOption res ((S.holds handle).1.1 ≡ None) (λ parts. (S.holds handle).1.1 ≡ Some parts.value)
 
-  module _ {M : Type 1} {𝓤 : Ura M} (𝓛 : Logic 𝓤) where
-    abbrev clauses : Clauses 𝓤 ended
-    clauses = λ κs args. record {
-      ghost = Unit {0};
-      requires = λ _. emp 𝓤;
-      ensures = λ _ res _. fact 𝓤 (MatchOption res ((S.holds args.0).1.1 ≡ None)
-          (λ parts. (S.holds args.0).1.1 ≡ Some parts.value));
-    }
-
-    module _ (𝓣 : Tables 𝓤 𝓛.H) (z : (walk_of 𝓛 ended stayed clauses).Ghost) where
-      abbrev Post : Val → SProp 𝓤
-      Post = (walk_of 𝓛 ended stayed clauses).post z
-
+  module _ {M : Type 1} {𝓤 : Ura M} (𝓛 : Logic 𝓤) (𝓣 : Tables 𝓤 𝓛.H) where
+    module _ (handle' : S.D) (Post : Val → SProp 𝓤) (ends : Ends (H S) To Said 𝓤 𝓛 handle' Post) where
       abbrev d : Held (X S)
-      d = S.holds z.0.3.0
+      d = S.holds handle'
 
       -- the walk from each pointer, and what may stand behind it
       at : (p : Ptr) (x : Option (X S).Denot) (hv : Val) → d.1.1 ≡ x → Fits (E S).al hv
@@ -108,9 +78,8 @@ module _ (S : Holder) where
           first ! $ branches ! (get ! refl)
           (λ t. sets ! (agg ! (and_then ! (lit ! tt) (no_more !))) refl (tt, (record { fits = lit< tt }, tt)) $
           returns_within ! Post refl (look_at ! 0 refl) $ free_all ! refl $
-          use0 𝓛 (‵ ((OP.the_row (Of S)).own_val None (live 0 (of_list []) ∷ []))) (none_of 𝓛 (Of S)) $
-          suffices ! _ (ends_at 𝓛 ended stayed clauses z (live 0 (of_list [])) None (tt, tt)
-          (tt, tt)) $ hands_over ! (e ∙ none))
+          use0 𝓛 (‵ (To.own_val None (live 0 (of_list []) ∷ []))) (none_of 𝓛 (Of S)) $
+          by ! (ends (live 0 (of_list [])) None (e ∙ none)))
           (λ t. absurd t)))
       at (block_ptr b o) None hv e fa =
           qed 𝓛 (‵ ffalse ∷ ‵ (handle (E S) d.1.0 hv) ∷ []) ∵ use1 𝓛 (given ⊥ (‵ ftrue)) (never_e 𝓤 _) $
@@ -125,7 +94,7 @@ module _ (S : Holder) where
           qed 𝓛 (owns ∷ ‵ (handle (E S) d.1.0 hv) ∷ []) ∵
           use1 𝓛 (given (Testable (block_ptr b o)) owns) (tested S 𝓛 d.1.0 (block_ptr b o) x) $ learn ! (λ may.
           fsplit ! $ box_in (E S) ! v b o x refl refl $ use1 𝓛 (‵ ((Of S).own_val made (w ∷ []))) (id⊢ 𝓤 _) $
-          use1 𝓛 (‵ ((OP.the_row (Of S)).own_val (Some made) (out ∷ []))) (Some-of 𝓛 (Of S) made w) $
+          use1 𝓛 (‵ (To.own_val (Some made) (out ∷ []))) (Some-of 𝓛 (Of S) made w) $
           enter ! 𝓣.C 𝓣.Λ code (w ∷ []) _ $ alloc_all ! (λ ls. pass_all ! refl (typed, tt) $
           sets ! (of_opd ! (get_in ! (fld ! refl (stop !)) (sub ! 0 refl (whole !)))) refl (tt, tt) $ sets !
           (of_opd ! (get_in ! (fld ! refl (stop !)) (sub ! 1 refl (whole !)))) refl fa $
@@ -138,21 +107,18 @@ module _ (S : Holder) where
             and_tt _ typed.0,
             (record { fits = lit< tt }, (typed.1, tt)),
           ) $
-          returns ! (look_at ! 0 refl) $ free_all ! refl $
-          suffices ! _ (ends_at 𝓛 ended stayed clauses z out (Some made) (tt, tt) (tt, tt)) $ hands_over ! e)))
+          returns ! (look_at ! 0 refl) $ free_all ! refl $ by ! (ends out (Some made) e))))
 
-      walk : ent 𝓤 ((walk_of 𝓛 ended stayed clauses).pre z) (WpFn 𝓤 𝓛.H 𝓣.C 𝓣.Λ code (z.0.4.0 ++ []) Post)
-      walk =
-          qed 𝓛 ((‵ ftrue ⊛ ‵ (fsep ((H S).own_val z.0.3.0 z.0.4.0) ftrue)) ∷ raw (emp 𝓤) ∷ []) ∵ split ! $
-          drop ! $ fsplit ! $
-          handle_out S ! d z.0.4.0 (λ hv ws fa. keep ! (0 ∷ 1 ∷ []) $
-          by ! (subst (λ (us : List Val). ent 𝓤
-          (sep 𝓤 (sem 𝓛 (held (X S) d.1.0 d.0 d.1.1)) (sem 𝓛 (handle (E S) d.1.0 hv)))
-          (WpFn 𝓤 𝓛.H 𝓣.C 𝓣.Λ code (us ++ []) Post)) (sym ws) (at d.0 d.1.1 hv refl fa)))
+    walk : Walk (H S) To Said 𝓤 𝓛 𝓣 code
+    walk x vs Post ends =
+        let t = S.holds x in
+        qed 𝓛 (‵ ((H S).own_val x vs) ∷ []) ∵ handle_out S ! t vs (λ hv ws fa.
+        regoal ! (λ (us : List Val). prop (WpFn 𝓤 𝓛.H 𝓣.C 𝓣.Λ code (us ++ []) Post)) ws refl $
+        by ! (at x Post ends t.0 t.1.1 hv refl fa))
 
   pub takes_out : {M : Type 1} (𝓤 : Ura M) (𝓛 : Logic 𝓤) (𝓜 : Model 𝓤 𝓛.H) (𝓡 : Running 𝓤 𝓛.H 𝓜) (name : Callee)
       → Closed 𝓤 𝓛.H (tables 𝓤 𝓛.H 𝓜 𝓡 𝓡.env).C (tables 𝓤 𝓛.H 𝓜 𝓡 𝓡.env).Λ name code
-      → Meets 𝓛 ended.signature (𝓡.run (𝓡.env name)) (closing 𝓛 ended (clauses 𝓛))
+      → Ensures (H S) To Said 𝓤 𝓛 𝓜 𝓡 name
   takes_out 𝓤 𝓛 𝓜 𝓡 name closed =
-      walked_through 𝓤 𝓛 𝓜 𝓡 name code ended stayed (clauses 𝓛) closed
-      (Goes-dropped 𝓛 0 (plain (λ _. H S)) yes (λ κs x f. refl), tt) (walk 𝓛 (called 𝓤 𝓛 𝓜 𝓡))
+      walks_by_value (H S) To Said 𝓤 𝓛 𝓜 𝓡 name code closed (λ h. tt) (λ κs h f. refl)
+      (walk 𝓛 (called 𝓤 𝓛 𝓜 𝓡))

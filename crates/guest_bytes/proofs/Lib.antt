@@ -1,2 +1,6 @@
-pub mod Lodging
+mod Lending
+mod Loans
+mod Lodging
+mod Structs
+mod Taking
 pub mod Walking

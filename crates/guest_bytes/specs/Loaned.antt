@@ -1,17 +1,17 @@
 -- What a loan owns.
-use Rattle.std.specs.Prelude.{ℕ, zero, suc, List}
-use Rattle.std.specs.Borrow.{full_share, Fml, Array, u8}
+use Rattle.std.specs.Prelude.{◌≡◌, ℕ, zero, suc, List, length}
+use Rattle.std.specs.Borrow.{full_share, Fml, Array}
 use Rattle.std.specs.Ptr.{lies_at}
-use Rattle.std.specs.contracts.sync.atomic.AtomicU64.{the_row as AtomicWord}
+use Rattle.std_alloc.specs.Vec.Ownership.{FitsInBlock}
 use base.Fml.{ftrue}
+use denote.RattleType.{RattleType}
 use denote.RawPtr.{Ptr}
 
--- The bytes that lie at a place. A loan of none owns nothing, and its place may be null.
-abbrev pub loaned : Ptr → ℕ → List ℕ → Fml
-loaned place zero bytes = ftrue
-loaned place (suc n) bytes = lies_at (Array u8 (suc n)) full_share place bytes
+-- The values that lie at a place. A loan of none owns nothing, and its place may be null.
+abbrev pub loaned : (X : RattleType) → Ptr → ℕ → List X.Denot → Fml
+loaned X place zero items = ftrue
+loaned X place (suc n) items = lies_at (Array X (suc n)) full_share place items
 
--- The words that lie at a place. A loan of none owns nothing, and its place may be null.
-abbrev pub loaned_words : Ptr → ℕ → List (Unit {0}) → Fml
-loaned_words place zero words = ftrue
-loaned_words place (suc n) words = lies_at (Array AtomicWord (suc n)) full_share place words
+-- these are as many values, and a `Vec` may have them
+abbrev pub IsRun : (X : RattleType) → ℕ → List X.Denot → Type 0
+IsRun X n items = (length items ≡ n) × FitsInBlock X n

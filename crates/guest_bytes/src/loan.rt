@@ -1,9 +1,10 @@
 //! A run of bytes as C lends it.
 
 ghost use Rattle.std.specs.Prelude.{◌≡◌, ℕ, ◌^◌, ◌<◌, List, [], length};
+ghost use Rattle.std.specs.Borrow.{u8};
 ghost use Rattle.guest_bytes.specs.Loaned.{loaned};
 
-use crate::lent::lend;
+use crate::lent::lend_run;
 use std::marker::Model;
 use std_alloc::vec::Lodged;
 
@@ -19,7 +20,7 @@ pub struct Loan {
 }
 
 impl Model for Loan {
-    ghost also_owns = { λ loan. loaned loan.bytes loan.len loan.items };
+    ghost also_owns = { λ loan. loaned u8 loan.bytes loan.len loan.items };
 }
 
 impl Loan {
@@ -46,16 +47,6 @@ impl Loan {
         ensures { result.items ≡ self.items }
     {
         let Loan { bytes, len } = self;
-        if len == 0 {
-            return none();
-        }
-        unsafe { lend(bytes, len) }
+        unsafe { lend_run(bytes, len) }
     }
-}
-
-// No bytes.
-fn none() -> Vec<u8, Lodged>
-    ensures { result.items ≡ [] }
-{
-    Vec::new(Lodged)
 }

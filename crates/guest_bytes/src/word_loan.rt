@@ -1,9 +1,10 @@
 //! A run of words as C lends it.
 
 ghost use Rattle.std.specs.Prelude.{◌≡◌, ◌*◌, ◌^◌, ◌<◌, List, [], length};
-ghost use Rattle.guest_bytes.specs.Loaned.{loaned_words};
+ghost use Rattle.std.specs.contracts.sync.atomic.AtomicU64.{the_row as AtomicWord};
+ghost use Rattle.guest_bytes.specs.Loaned.{loaned};
 
-use crate::lent::lend_words;
+use crate::lent::lend_run;
 use std::marker::Model;
 use std::sync::atomic::AtomicU64;
 use std_alloc::vec::Lodged;
@@ -21,7 +22,7 @@ pub struct WordLoan {
 }
 
 impl Model for WordLoan {
-    ghost also_owns = { λ loan. loaned_words loan.words loan.len loan.items };
+    ghost also_owns = { λ loan. loaned AtomicWord loan.words loan.len loan.items };
 }
 
 impl WordLoan {
@@ -48,16 +49,6 @@ impl WordLoan {
         ensures { length result.items ≡ length self.items }
     {
         let WordLoan { words, len } = self;
-        if len == 0 {
-            return none();
-        }
-        unsafe { lend_words(words as *mut AtomicU64, len) }
+        unsafe { lend_run(words as *mut AtomicU64, len) }
     }
-}
-
-// No words.
-fn none() -> Vec<AtomicU64, Lodged>
-    ensures { result.items ≡ [] }
-{
-    Vec::new(Lodged)
 }

@@ -1,8 +1,7 @@
-use Rattle.std.proofs.Common.{◌≡◌, ◌<◌, length, List, [], ◌∷◌, ◌++◌, ◌+◌, map, ◌∙◌, sym, ap, arith}
+use Rattle.std.proofs.Common.{◌≡◌, ◌<◌, length, [], ◌+◌, sym, ap, ◌∙◌, arith}
 use Rattle.std.specs.Vec.{vec_items}
-use Rattle.std.proofs.lemmas.List.{map-append}
 use Rattle.guest_bytes.specs.declared.word_loan.WordLoan.{WordLoan}
-use Rattle.c_values.proofs.OneByOne.{all_taken, first_taken, listed, same_there, same_words, taken_next}
+use Rattle.c_values.proofs.OneByOne.{all_taken, first_taken, one_more_taken, same_words, taken_next}
 use Rattle.racing_ffi.proofs.words.taken.Goals as goal
 
 abbrev IsEmpty : WordLoan → Type 0
@@ -10,20 +9,12 @@ IsEmpty loan = loan.items ≡ []
 
 pub loop-place-preserved : goal.loop-place-preserved
 loop-place-preserved c =
-    let old = c.args.loans.now in
-    let loans = c.loop-place.loans in
-    let place = c.loop-place.place in
-    let before = c.loop-place.invariant in
-    let few : place < length old = omega (arith, c.loop-place-test.true) in
-    let here = same_there loans old place c.index-loans-place.result before.1.0 c.index-loans-place.is in (
-      ap (map vec_items) c.in_ok-push.ensures.items
-          ∙ map-append vec_items c.loop-place.words.items (c.take.result ∷ [])
-          ∙ ap (λ (run : List (Unit {0})). map vec_items c.loop-place.words.items ++ (run ∷ [])) (same_words _ _ c.take.ensures.taken
-          ∙ ap (λ (loan : WordLoan). loan.items) (sym c.index-loans-place.is))
-          ∙ listed (λ (loan : WordLoan). loan.items) old place c.index-loans-place.result
-          (map vec_items c.loop-place.words.items) few here before.0,
-      taken_next IsEmpty old loans place c.take.new.self few before.1 c.take.ensures.left,
-    )
+    let loan : WordLoan = c.index-loans-place.result in
+    let few : c.loop-place.place < length c.args.loans.now = omega (arith, c.loop-place-test.true) in
+    one_more_taken IsEmpty (λ (loan : WordLoan). loan.items) vec_items c.args.loans.now c.loop-place.loans
+    c.loop-place.place loan c.take.new.self c.loop-place.words.items _ c.take.result few c.loop-place.invariant
+    c.index-loans-place.is c.in_ok-push.ensures.items
+    (same_words _ _ c.take.ensures.taken ∙ ap (λ (loan : WordLoan). loan.items) (sym c.index-loans-place.is)) c.take.ensures.left
 
 pub returns-in_err-push-clause-front : goal.returns-in_err-push-clause-front
 returns-in_err-push-clause-front c =

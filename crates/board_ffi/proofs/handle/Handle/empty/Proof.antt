@@ -1,5 +1,5 @@
 -- `empty` makes a handle of none.
-use Rattle.c_values.proofs.Emptying.{empties}
+use Rattle.c_values.proofs.Making.{empties}
 use Rattle.board_ffi.proofs.Holding.{holder}
 use Rattle.board_ffi.specs.contracts.handle.Handle.empty.Key.{name as #self}
 use Rattle.board_ffi.proofs.handle.Handle.empty.Statement as stated

@@ -1,5 +1,5 @@
 -- `of_parts` makes a handle of parts.
-use Rattle.c_values.proofs.Filling.{fills}
+use Rattle.c_values.proofs.Making.{fills}
 use Rattle.board_ffi.proofs.Holding.{holder}
 use Rattle.board_ffi.specs.contracts.handle.Handle.of_parts.Key.{name as #self}
 use Rattle.board_ffi.proofs.handle.Handle.of_parts.Statement as stated

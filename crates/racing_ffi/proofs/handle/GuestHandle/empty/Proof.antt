@@ -1,5 +1,5 @@
 -- `empty` makes a handle of none.
-use Rattle.c_values.proofs.Emptying.{empties}
+use Rattle.c_values.proofs.Making.{empties}
 use Rattle.racing_ffi.proofs.Holding.{holder}
 use Rattle.racing_ffi.specs.contracts.handle.GuestHandle.empty.Key.{name as #self}
 use Rattle.racing_ffi.proofs.handle.GuestHandle.empty.Statement as stated

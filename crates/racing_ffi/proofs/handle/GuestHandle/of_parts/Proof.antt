@@ -1,5 +1,5 @@
 -- `of_parts` makes a handle of parts.
-use Rattle.c_values.proofs.Filling.{fills}
+use Rattle.c_values.proofs.Making.{fills}
 use Rattle.racing_ffi.proofs.Holding.{holder}
 use Rattle.racing_ffi.specs.contracts.handle.GuestHandle.of_parts.Key.{name as #self}
 use Rattle.racing_ffi.proofs.handle.GuestHandle.of_parts.Statement as stated
