@@ -1,6 +1,6 @@
 -- Devices stay sound where the bytes of the memory change, and where one of them does its part.
 use Rattle.std.proofs.Common.{◌≡◌, ℕ, List, refl, sym, ◌∙◌, subst}
-use Rattle.std.specs.Prelude.{◌<◌, [], ◌∷◌, ◌++◌, Bool, true, false, if◌then◌else◌, get_or, is_some, length, slice_set}
+use Rattle.std.specs.Prelude.{◌<◌, [], ◌∷◌, ◌++◌, Bool, true, false, if◌then◌else◌, get_or, length, slice_set}
 use Rattle.std.proofs.lemmas.List.Elements.{All-get_or, All-push, All-set, All-weaker}
 use Rattle.guest_memory.specs.Memory.{Memory, SameRange}
 use Rattle.mmio_window.proofs.Soundness.{IsSound-same_range}
@@ -13,9 +13,8 @@ use Rattle.device_list.specs.Device.{DeviceState, IsSoundDevice, fresh_device}
 use Rattle.device_list.specs.List.{AreSoundDevices}
 use Rattle.hosted_disk.specs.Disk.{fresh_disk}
 use Rattle.hosted_disk.proofs.Flights.{idle_held, keeps_all, none_taken, still_held, written_held}
-use Rattle.device_list.specs.Card.{Card}
 use Rattle.device_list.specs.declared.spec.DeviceSpec.TheVariants as spec
-use Rattle.device_list.specs.Model.{ModelState, Block, Console, Entropy, Network, IsHeld, card_of, features_of, fresh_model, is_at_work, kind_of, must_wait, with_card}
+use Rattle.device_list.specs.Model.{ModelState, Block, Console, Entropy, Network, IsHeld, features_of, fresh_model, is_at_work, kind_of, must_wait}
 
 -- a device that was sound is so with this window and this model
 pub made_sound : (m m' : Memory) (d : DeviceState) (w : WindowState) (model : ModelState) → IsSoundDevice m d
@@ -61,14 +60,6 @@ held_fresh m w (spec.Network mac mtu) = tt
 held_fresh m w (spec.Block sectors read_only identity depth) =
     idle_held m w (fresh_disk sectors read_only identity depth) (none_taken depth)
 held_fresh m w (spec.Console cols rows) = tt
-
--- and a card has nothing in flight
-pub held_card : (change : Card → Card) (m : Memory) (w : WindowState) (model : ModelState)
-    → is_some (card_of model) ≡ true → IsHeld m w (with_card change model)
-held_card change m w (Network card) is = tt
-held_card change m w (Entropy pool) is = absurd (cc is)
-held_card change m w (Block disk) is = absurd (cc is)
-held_card change m w (Console terminal) is = absurd (cc is)
 
 pub sound_over : (m m' : Memory) (d : DeviceState) → SameRange m m' → IsSoundDevice m d → IsSoundDevice m' d
 sound_over m m' d range sound = record {
