@@ -229,8 +229,7 @@ restored_sound m saved old read after items i s d there put w idle suit sound so
       window = here;
       held = held_idle m w there.model (ap is_at_work models ∙ idle_at old i d idle at_old);
     } in
-    all_sound m m items i put (record { base = refl; size = refl; gaps = refl })
-    (subst (λ (l : List DeviceState). AreSoundDevices m l) (sym same) so)
+    all_sound m m items after i put same (record { base = refl; size = refl; gaps = refl }) so
     (subst (IsSoundDevice m) (sym made) one)
 
 -- ---- what is saved gives each window back

@@ -81,18 +81,31 @@ written_sound m m' d offset width value u w model is sound kind offered same_kin
     made_sound m m' d w model sound (kind ∙ now.kind) (offered ∙ now.offered) (sym same_kind)
     (sym same_features) here held
 
--- where one of them changed, and the memory with it
-pub all_sound : (m m' : Memory) (devices : List DeviceState) (i : ℕ) (d : DeviceState) → SameRange m m'
-    → AreSoundDevices m devices → IsSoundDevice m' d → AreSoundDevices m' (slice_set devices i d)
-all_sound m m' devices i d range sound here =
-    All-set (IsSoundDevice m') devices i d here
-    (All-weaker (IsSoundDevice m) (IsSoundDevice m') (λ found was. sound_over m m' found range was) devices sound)
+-- ---- each of them
 
--- and where it changed alone
 pub still_sound : (m m' : Memory) (devices : List DeviceState) → SameRange m m' → AreSoundDevices m devices
     → AreSoundDevices m' devices
 still_sound m m' devices range sound =
     All-weaker (IsSoundDevice m) (IsSoundDevice m') (λ found was. sound_over m m' found range was) devices sound
+
+pub one_sound : (m : Memory) (devices : List DeviceState) (i : ℕ) (d : DeviceState) → AreSoundDevices m devices
+    → i < length devices → d ≡ get_or devices i d → IsSoundDevice m d
+one_sound m devices i d sound within is =
+    subst (λ (found : DeviceState). IsSoundDevice m found) (sym is) (All-get_or (IsSoundDevice m) devices i d within sound)
+
+-- where one of them changed, and the memory with it
+pub all_sound : (m m' : Memory) (devices old : List DeviceState) (i : ℕ) (d : DeviceState) → devices ≡ old
+    → SameRange m m' → AreSoundDevices m old → IsSoundDevice m' d → AreSoundDevices m' (slice_set devices i d)
+all_sound m m' devices old i d is range sound here =
+    rw is (All-set (IsSoundDevice m') old i d here (still_sound m m' old range sound))
+
+-- where it changed alone
+pub one_changed : (m : Memory) (devices old : List DeviceState) (i : ℕ) (d e : DeviceState) → devices ≡ old
+    → i < length devices → d ≡ get_or devices i d → (IsSoundDevice m d → IsSoundDevice m e) → AreSoundDevices m old
+    → AreSoundDevices m (slice_set devices i e)
+one_changed m devices old i d e is within found stays sound =
+    let was = one_sound m devices i d (rw is sound) within found in
+    all_sound m m devices old i e is (record { base = refl; size = refl; gaps = refl }) sound (stays was)
 
 -- a device as after a reset is sound, wherever its memory is
 pub fresh_sound : (m : Memory) (spec : DeviceSpec) → IsSoundDevice m (fresh_device spec)
@@ -110,9 +123,3 @@ pub added_sound : (m : Memory) (devices after : List DeviceState) (d : DeviceSta
 added_sound m devices after d spec true fresh is sound =
     rw (is, fresh) (All-push (IsSoundDevice m) devices (fresh_device spec) sound (fresh_sound m spec))
 added_sound m devices after d spec false fresh is sound = rw is sound
-
--- each of them is
-pub one_sound : (m : Memory) (devices : List DeviceState) (i : ℕ) (d : DeviceState) → AreSoundDevices m devices
-    → i < length devices → d ≡ get_or devices i d → IsSoundDevice m d
-one_sound m devices i d sound within is =
-    subst (λ (found : DeviceState). IsSoundDevice m found) (sym is) (All-get_or (IsSoundDevice m) devices i d within sound)

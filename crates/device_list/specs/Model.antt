@@ -170,6 +170,12 @@ abbrev pub IsHeld : Memory → WindowState → ModelState → Type 0
 IsHeld m w (Block disk) = HoldsFlights m w disk
 IsHeld m w model = ⊤
 
+-- Of the same type with the same features, and what is in flight of it is held where it was.
+pub record KeepsModel (old new : ModelState) : Type 0 where
+  pub kind : kind_of new ≡ kind_of old
+  pub features : features_of new ≡ features_of old
+  pub held : (m : Memory) (w : WindowState) → IsHeld m w old → IsHeld m w new
+
 -- whether anything is in flight of it
 abbrev pub is_at_work : ModelState → Bool
 is_at_work (Block disk) = is_any disk.tags
