@@ -1,14 +1,12 @@
 -- From a service of a queue to what its window's guest sees of it.
-use Rattle.std.proofs.Common.{◌≡◌, ℕ, Option, Some, None, Result, Ok, Err, List, refl, sym}
+use Rattle.std.proofs.Common.{◌≡◌, ℕ, Option, Some, None, Result, Ok, Err, List, refl}
 use Rattle.std.specs.Prelude.{OnErr}
-use Rattle.guest_memory.specs.Memory.{Memory, SameRange}
+use Rattle.guest_memory.specs.Memory.{Memory}
 use Rattle.chain.specs.Service.{Refused}
 use Rattle.mmio_window.specs.declared.queue.Queue.{Queue}
-use Rattle.mmio_window.specs.Queue.{made_as, queue_kind}
+use Rattle.mmio_window.specs.Queue.{queue_kind}
 use Rattle.mmio_window.specs.Serving.{IsNotified, Notified}
-use Rattle.mmio_window.specs.Soundness.{IsSound}
-use Rattle.mmio_window.specs.Window.{WindowState, queue_at, with_ring}
-use Rattle.mmio_window.proofs.Soundness.{serving_keeps_sound}
+use Rattle.mmio_window.specs.Window.{WindowState}
 use Rattle.mmio_window.proofs.Services.{notified_as, notified_exact}
 use Rattle.console_device.specs.Input.{IsLeft}
 use Rattle.console_device.specs.Device.{receive, transmit, exact_transmit, transmit_within}
@@ -40,13 +38,6 @@ refused_somewhere limit q at old new before after s s' h =
 pub on_refusal : {E T : Type 0} (r : Result T E) (P : Type 0) → P → OnErr r P
 on_refusal (Ok x) P p = tt
 on_refusal (Err x) P p = p
-
--- and the window stays sound
-pub sound_still : (old new : Memory) (w : WindowState) (q : ℕ) (queue last : Queue) → IsSound old w
-    → SameRange old new → Some queue ≡ queue_at q w → made_as last ≡ made_as queue
-    → IsSound new (with_ring q w last)
-sound_still old new w q queue last sound range lent made =
-    serving_keeps_sound old new w q queue last sound range (sym lent) made
 
 -- what a notification of the receive queue leaves pending is the end of what was
 pub notified_left : (q : ℕ) (queue : Option Queue) (old new : Memory) (before after : WindowState)

@@ -1,26 +1,25 @@
 -- A network card's services: each is one of the whole queue, and its window stays its device's.
-use Rattle.std.proofs.Common.{◌≡◌, ◌≢◌, ℕ, arith, Option, None, Result, Ok, Err, List, refl, sym, ap, ◌∙◌, subst, inl, inr}
+use Rattle.std.proofs.Common.{◌≡◌, ◌≢◌, ℕ, zero, suc, arith, None, Result, List, refl, sym, ap, ◌∙◌, subst, inl, inr}
 use Rattle.std.specs.Prelude.{IfOk, OnErr}
 use Rattle.std.proofs.lemmas.List.{drop_all}
 use Rattle.guest_memory.specs.Memory.{Memory}
 use Rattle.chain.specs.declared.budget.Budget.{Budget}
 use Rattle.chain.specs.declared.budget.Progress.{Progress}
-use Rattle.chain.specs.Service.{Device, Ending, Spent, Faulted, Refused, IsExactUnless}
+use Rattle.chain.specs.Service.{Ending, Spent, Faulted, Refused}
 use Rattle.chain.proofs.Servicing.{Decides}
-use Rattle.mmio_window.specs.declared.queue.Queue.{Queue}
 use Rattle.mmio_window.specs.declared.stage.Stage.TheVariants.{First}
 use Rattle.mmio_window.specs.Pieces.{IsRefusedAt, ServesTo}
-use Rattle.mmio_window.specs.Serving.{IsNotified, Notified}
+use Rattle.mmio_window.specs.Serving.{IsNotified}
 use Rattle.mmio_window.specs.Window.{WindowState, queue_at}
-use Rattle.mmio_window.proofs.Devices.{KeepsDevice, KeepsDevice-refused, KeepsDevice-served}
-use Rattle.mmio_window.proofs.Pieces.{never_pauses, notified_once}
-use Rattle.mmio_window.proofs.Services.{notified_exact, notified_not_refused}
+use Rattle.mmio_window.proofs.Devices.{KeepsDevice}
+use Rattle.mmio_window.proofs.Pieces.{notified_once}
 use Rattle.network_device.specs.declared.limits.Limits.{Limits}
 use Rattle.network_device.specs.declared.transmit.NoRoom.{NoRoom}
 use Rattle.network_device.specs.Device.{Delivers, Passing, emptied, misfits, passing, receive, receive_fitting, transmit, transmit_fitting}
 use Rattle.network_device.specs.Network.{Network}
 use Rattle.network_device.specs.Receiving.{ReceivesTo}
-use Rattle.device_list.specs.Card.{Card, ReceivesFrames, TransmitsFrames, card_limits, kept_behind}
+use Rattle.device_list.specs.Card.{Card, ReceivesFrames, ServesCard, TransmitsFrames, card_limits, kept_behind}
+use Rattle.device_list.proofs.Services.{IsFitting, answers_all, nothing_keeps, notified_keeps, serves_all}
 
 -- ---- each queue decides whether it serves a chain or leaves it
 
@@ -35,38 +34,14 @@ transmit_decides limits = record {
   never_both = λ out readable w g gives lacks. (let room = gives.1 lacks.0 in cc (room, lacks.1));
 }
 
--- ---- a service without limits that leaves no chain is one of the whole queue
+receive_fits : IsFitting receive_fitting receive
+receive_fits = record { takes = λ s. refl; gives = λ s readable w g h. h; never = λ s readable w lacks. lacks }
 
-record Answered (device : Device Passing) (q : ℕ) (queue : Option Queue) (m m' : Memory) (w w' : WindowState)
-    (s s' : Passing) : Type 0 where
-  ending : Ending
-  answered : ending ≢ Refused
-  notified : Notified device q queue ending m m' w w' s s'
-
-answers_all : (fitting device : Device Passing) → IsExactUnless fitting device (λ s. 0)
-    → ((s : Passing) (readable : List ℕ) (w : ℕ) → fitting.LacksMemory s readable w → ⊥)
-    → (budget : Budget) (q : ℕ) (queue : Option Queue) (progress : Progress) (m m' : Memory)
-    (w w' : WindowState) (s s' : Passing) → budget.chains ≡ None → budget.bytes ≡ None
-    → ServesTo First fitting budget q queue progress m m' w w' s s'
-    → Answered device q queue m m' w w' s s'
-answers_all fitting device is_exact never budget q queue progress m m' w w' s s' chains bytes served =
-    let h = never_pauses fitting budget q queue progress m m' w w' s s' chains bytes served in
-    let whole = notified_once fitting budget q queue h.ending m m' w w' s s' h.notified in
-    let answered = notified_not_refused fitting never q queue h.ending m m' w w' s s' whole in
-    record {
-      ending = h.ending;
-      answered = answered;
-      notified = notified_exact fitting device (λ s. 0) is_exact q queue h.ending m m' w w' s s' answered refl whole;
-    }
+transmit_fits : (limits : Limits) → IsFitting (transmit_fitting limits) (transmit limits)
+transmit_fits limits =
+    record { takes = λ s. refl; gives = λ s readable w g h. h; never = λ s readable w lacks. lacks }
 
 -- ---- receiving
-
-receive_exact : IsExactUnless receive_fitting receive (λ s. 0)
-receive_exact = record {
-  takes = λ s. refl;
-  rises = λ s readable w g h. omega arith;
-  gives = λ s readable w g h e. h;
-}
 
 all_kept : (ending : Ending) (waiting : Passing) → ending ≢ Refused → kept_behind ending waiting ≡ waiting
 all_kept Spent waiting n = refl
@@ -85,16 +60,15 @@ same_card card after waiting rest is =
     with_waiting : Passing → Network
     with_waiting p = record card.network { waiting = p }
 
-module _ (card : Card) (after : Network) (budget : Budget) (progress : Progress) (m m' : Memory)
-    (w w' : WindowState) where
-  pub receives : after ≡ record card.network { waiting = after.waiting }
+module _ (card : Card) (after : Network) (budget : Budget) (m m' : Memory) (w w' : WindowState)
+    (chains : budget.chains ≡ None) (bytes : budget.bytes ≡ None) where
+  pub receives : (progress : Progress) → after ≡ record card.network { waiting = after.waiting }
       → ReceivesTo First budget (queue_at 0 w) progress m m' w w' card.network.waiting after.waiting
-      → budget.chains ≡ None → budget.bytes ≡ None
       → ReceivesFrames card m m' w w' (record card { network = after })
-  receives rest served chains bytes = elim served [
+  receives progress rest served = elim served [
     | inl fits ↦
-        let h = answers_all receive_fitting receive receive_exact (λ s readable n lacks. lacks) budget 0 (queue_at 0 w)
-        progress m m' w w' card.network.waiting after.waiting chains bytes fits in
+        let h = answers_all receive_fitting receive receive_fits budget 0 (queue_at 0 w) m m' w w'
+        card.network.waiting after.waiting chains bytes progress fits in
         record {
           ending = h.ending;
           last = after.waiting;
@@ -111,68 +85,38 @@ module _ (card : Card) (after : Network) (budget : Budget) (progress : Progress)
     }
   ]
 
-  pub receive_keeps : ReceivesTo First budget (queue_at 0 w) progress m m' w w' card.network.waiting after.waiting
-      → KeepsDevice w w'
-  receive_keeps served = elim served [
-    | inl fits ↦ KeepsDevice-served receive_fitting budget 0 First (queue_at 0 w) progress m m' w w'
-        card.network.waiting after.waiting fits
-    | inr ends ↦ KeepsDevice-refused receive budget 0 First (queue_at 0 w) m m' w w' card.network.waiting
-        ends.1.last ends.1.refused
-  ]
+  -- ---- transmitting
 
--- ---- transmitting
+  module _ (sent : List (List ℕ)) (limits : Limits) where
+    abbrev IsSent : Limits → Type 0
+    IsSent l = IsNotified (transmit l) 1 (queue_at 1 w) m m' w w'
+        (passing card.sent card.network.dropped) (passing sent after.dropped)
 
-transmit_exact : (limits : Limits) → IsExactUnless (transmit_fitting limits) (transmit limits) (λ s. 0)
-transmit_exact limits = record {
-  takes = λ s. refl;
-  rises = λ s readable w g h. omega arith;
-  gives = λ s readable w g h e. h;
-}
+    pub transmits : (result : Result Progress NoRoom) → after ≡ record card.network { dropped = after.dropped }
+        → limits ≡ card_limits
+        → IfOk result (λ progress. ServesTo First (transmit_fitting limits) budget 1 (queue_at 1 w) progress m m' w w'
+        (passing card.sent card.network.dropped) (passing sent after.dropped))
+        → OnErr result (IsRefusedAt First (transmit limits) budget 1 (queue_at 1 w) m m' w w'
+        (passing card.sent card.network.dropped) (passing sent after.dropped))
+        → TransmitsFrames card m m' w w' (record { network = after; sent = sent })
+    transmits result rest is goes stops = record {
+      out = passing sent after.dropped;
+      notified = subst IsSent is (serves_all (transmit_fitting limits) (transmit limits) (transmit_fits limits) budget 1
+          (queue_at 1 w) m m' w w' (passing card.sent card.network.dropped) (passing sent after.dropped) chains bytes
+          result goes stops);
+      is = ap with_network rest;
+    }
+      where
+        with_network : Network → Card
+        with_network n = record { network = n; sent = sent }
 
-module _ (card : Card) (after : Network) (sent : List (List ℕ)) (limits : Limits) (budget : Budget)
-    (m m' : Memory) (w w' : WindowState) where
-  abbrev Goes : Progress → Type 0
-  Goes progress = ServesTo First (transmit_fitting limits) budget 1 (queue_at 1 w) progress m m' w w'
-      (passing card.sent card.network.dropped) (passing sent after.dropped)
+-- ---- its window
 
-  abbrev Stops : Type 0
-  Stops = IsRefusedAt First (transmit limits) budget 1 (queue_at 1 w) m m' w w'
-      (passing card.sent card.network.dropped) (passing sent after.dropped)
-
-  abbrev IsSent : Limits → Type 0
-  IsSent l = IsNotified (transmit l) 1 (queue_at 1 w) m m' w w'
-      (passing card.sent card.network.dropped) (passing sent after.dropped)
-
-  sends : (result : Result Progress NoRoom) → IfOk result Goes → OnErr result Stops → budget.chains ≡ None
-      → budget.bytes ≡ None → IsSent limits
-  sends (Ok progress) goes stops chains bytes =
-      let h = answers_all (transmit_fitting limits) (transmit limits) (transmit_exact limits)
-      (λ s readable n lacks. lacks) budget 1 (queue_at 1 w) progress m m' w w'
-      (passing card.sent card.network.dropped) (passing sent after.dropped) chains bytes goes in
-      record { ending = h.ending; notified = h.notified }
-  sends (Err why) goes stops chains bytes = record {
-    ending = Refused;
-    notified = notified_once (transmit limits) budget 1 (queue_at 1 w) Refused m m' w w'
-        (passing card.sent card.network.dropped) (passing sent after.dropped) stops;
-  }
-
-  pub transmits : (result : Result Progress NoRoom) → after ≡ record card.network { dropped = after.dropped }
-      → limits ≡ card_limits → IfOk result Goes → OnErr result Stops → budget.chains ≡ None
-      → budget.bytes ≡ None → TransmitsFrames card m m' w w' (record { network = after; sent = sent })
-  transmits result rest is goes stops chains bytes = record {
-    out = passing sent after.dropped;
-    notified = subst IsSent is (sends result goes stops chains bytes);
-    is = ap with_network rest;
-  }
-    where
-      with_network : Network → Card
-      with_network n = record { network = n; sent = sent }
-
-  pub transmit_keeps : (result : Result Progress NoRoom) → IfOk result Goes → OnErr result Stops
-      → KeepsDevice w w'
-  transmit_keeps (Ok progress) goes stops =
-      KeepsDevice-served (transmit_fitting limits) budget 1 First (queue_at 1 w) progress m m' w w'
-      (passing card.sent card.network.dropped) (passing sent after.dropped) goes
-  transmit_keeps (Err why) goes stops =
-      KeepsDevice-refused (transmit limits) budget 1 First (queue_at 1 w) m m' w w'
-      (passing card.sent card.network.dropped) (passing sent after.dropped) stops
+pub card_keeps : (card card' : Card) (q : ℕ) (m m' : Memory) (w w' : WindowState) → ServesCard card q m m' w w' card'
+    → KeepsDevice w w'
+card_keeps card card' zero m m' w w' h =
+    notified_keeps receive 0 (omega arith) (queue_at 0 w) h.ending m m' w w' card.network.waiting h.last h.notified
+card_keeps card card' (suc zero) m m' w w' h =
+    notified_keeps (transmit card_limits) 1 (omega arith) (queue_at 1 w) h.notified.ending m m' w w'
+    (passing card.sent card.network.dropped) h.out h.notified.notified
+card_keeps card card' (suc (suc q)) m m' w w' h = nothing_keeps m m' w w' card card' h

@@ -1,3 +1,4 @@
+pub mod Services
 pub mod Cards
 pub mod One
 pub mod Terminals

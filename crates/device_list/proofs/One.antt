@@ -8,10 +8,10 @@ use Rattle.mmio_window.specs.declared.action.Action.{Action}
 use Rattle.mmio_window.specs.declared.action.Action.TheVariants.{ConfigWrite, Notify}
 use Rattle.mmio_window.specs.declared.queue.Queue.{Queue}
 use Rattle.mmio_window.specs.Queue.{queue_kind}
-use Rattle.mmio_window.specs.Serving.{NothingHappens, Notified}
+use Rattle.mmio_window.specs.Serving.{IsNotified, NothingHappens, Notified}
 use Rattle.mmio_window.specs.Window.{WindowState, queue_at}
 use Rattle.mmio_window.specs.Writing.{action_of, written}
-use Rattle.mmio_window.proofs.OneEnd.{HasOneService, one_end}
+use Rattle.mmio_window.proofs.OneEnd.{HasOneService, SameEnd, one_end}
 use Rattle.mmio_window.proofs.QueueKind.{has_at_most_one_chain}
 use Rattle.entropy_device.specs.Device.{entropy}
 use Rattle.entropy_device.proofs.Services.{once as entropy_once}
@@ -21,13 +21,13 @@ use Rattle.console_device.proofs.Services.{receive_once as input_once, within_on
 use Rattle.network_device.specs.Device.{Passing, passing, receive, transmit}
 use Rattle.network_device.proofs.Answering.{receive_once, transmit_once}
 use Rattle.block_device.specs.declared.operation.HostEvent.{HostEvent}
-use Rattle.hosted_disk.specs.Disk.{HostedDisk}
+use Rattle.hosted_disk.specs.Disk.{HostedDisk, ServesDisk}
 use Rattle.hosted_disk.specs.Told.{DoesAsTold}
 use Rattle.hosted_disk.proofs.One.{serve_disk, tell_disk}
 use Rattle.device_list.specs.Card.{Card, ReceivesFrames, ServesCard, TransmitsFrames, card_limits, kept_behind, with_frame}
 use Rattle.device_list.specs.Device.{DeviceState, Finishes, IsConfigured, Receives, ServesAfter, Supplies, TakesSent, Told, Writes}
 use Rattle.device_list.specs.List.{At}
-use Rattle.device_list.specs.Model.{ModelState, Entropy, Network as NetworkModel, Block as BlockModel, Console as ConsoleModel, Serves, supplied_model, with_card, without_sent}
+use Rattle.device_list.specs.Model.{ModelState, Entropy, Network as NetworkModel, Block as BlockModel, Console as ConsoleModel, Serves, ServesAs, supplied_model, with_card, without_sent}
 use Rattle.device_list.specs.Terminal.{ReceivesInput, ServesTerminal, Terminal, TransmitsOutput, terminal_limit}
 use Rattle.device_list.proofs.Cards.{receive_decides, transmit_decides}
 
@@ -49,24 +49,27 @@ one_ending {State} device q (Some queue) old m n before v w s0 s t e f once a b 
     let other : Site Queue State = record { memory = n; ring = b.last; state = t } in
     (once old queue one other e f a.wanted b.wanted a.service b.service).1
 
--- two outcomes are the same
-record AreOne {State : Type 0} (m n : Memory) (v w : WindowState) (one other : State) : Type 0 where
-  memory : m ≡ n
-  window : v ≡ w
-  state : one ≡ other
-
 neither_happens : {State : Type 0} (m n o : Memory) (u v w : WindowState) (s one other : State)
-    → NothingHappens m n u v s one → NothingHappens m o u w s other → AreOne n o v w one other
+    → NothingHappens m n u v s one → NothingHappens m o u w s other → SameEnd n o v w one other
 neither_happens m n o u v w s one other a b = record {
   memory = a.memory ∙ sym b.memory;
   window = a.window ∙ sym b.window;
   state = a.state ∙ sym b.state;
 }
 
+-- what is made of the state in which a service leaves its device is the same
+made_once : {State Whole : Type 0} (device : Device State) → HasAtMostOneAnswer device → Decides device → (q : ℕ)
+    (made : State → Whole) (m n o : Memory) (u v w : WindowState) (s0 s t : State) (one other : Whole)
+    → IsNotified device q (queue_at q u) m n u v s0 s → IsNotified device q (queue_at q u) m o u w s0 t
+    → one ≡ made s → other ≡ made t → SameEnd n o v w one other
+made_once device once decides q made m n o u v w s0 s t one other a b x y =
+    let end = one_end device q (queue_at q u) m n o u v w s0 s t (one_service device once decides s0) a b in
+    record { memory = end.memory; window = end.window; state = x ∙ ap made end.state ∙ sym y }
+
 -- ---- a card
 
 receives_once : (card : Card) (m n o : Memory) (u v w : WindowState) (one other : Card)
-    → ReceivesFrames card m n u v one → ReceivesFrames card m o u w other → AreOne n o v w one other
+    → ReceivesFrames card m n u v one → ReceivesFrames card m o u w other → SameEnd n o v w one other
 receives_once card m n o u v w one other a b =
     let start = card.network.waiting in
     let only = one_service receive receive_once receive_decides start in
@@ -84,23 +87,14 @@ receives_once card m n o u v w one other a b =
     made ending last = record card { network = record card.network { waiting = kept_behind ending last } }
 
 transmits_once : (card : Card) (m n o : Memory) (u v w : WindowState) (one other : Card)
-    → TransmitsFrames card m n u v one → TransmitsFrames card m o u w other → AreOne n o v w one other
+    → TransmitsFrames card m n u v one → TransmitsFrames card m o u w other → SameEnd n o v w one other
 transmits_once card m n o u v w one other a b =
-    let device = transmit card_limits in
-    let start = passing card.sent card.network.dropped in
-    let end = one_end device 1 (queue_at 1 u) m n o u v w start a.out b.out
-    (one_service device (transmit_once card_limits) (transmit_decides card_limits) start) a.notified b.notified in
-    record {
-      memory = end.memory;
-      window = end.window;
-      state = a.is ∙ ap made end.state ∙ sym b.is;
-    }
-  where
-    made : Passing → Card
-    made out = record { network = record card.network { dropped = out.dropped }; sent = out.frames }
+    made_once (transmit card_limits) (transmit_once card_limits) (transmit_decides card_limits) 1
+    (λ out. record { network = record card.network { dropped = out.dropped }; sent = out.frames }) m n o u v w
+    (passing card.sent card.network.dropped) a.out b.out one other a.notified b.notified a.is b.is
 
 card_once : (card : Card) (q : ℕ) (m n o : Memory) (u v w : WindowState) (one other : Card)
-    → ServesCard card q m n u v one → ServesCard card q m o u w other → AreOne n o v w one other
+    → ServesCard card q m n u v one → ServesCard card q m o u w other → SameEnd n o v w one other
 card_once card zero m n o u v w one other a b = receives_once card m n o u v w one other a b
 card_once card (suc zero) m n o u v w one other a b = transmits_once card m n o u v w one other a b
 card_once card (suc (suc q)) m n o u v w one other a b = neither_happens m n o u v w card one other a b
@@ -108,39 +102,21 @@ card_once card (suc (suc q)) m n o u v w one other a b = neither_happens m n o u
 -- ---- a console
 
 inputs_once : (terminal : Terminal) (m n o : Memory) (u v w : WindowState) (one other : Terminal)
-    → ReceivesInput terminal m n u v one → ReceivesInput terminal m o u w other → AreOne n o v w one other
+    → ReceivesInput terminal m n u v one → ReceivesInput terminal m o u w other → SameEnd n o v w one other
 inputs_once terminal m n o u v w one other a b =
-    let start = terminal.console.pending in
-    let decides : Decides receive_input = record { never_both = λ s readable k g gives lacks. lacks } in
-    let end = one_end receive_input 0 (queue_at 0 u) m n o u v w start a.left b.left
-    (one_service receive_input input_once decides start) a.notified b.notified in
-    record {
-      memory = end.memory;
-      window = end.window;
-      state = a.is ∙ ap made end.state ∙ sym b.is;
-    }
-  where
-    made : List ℕ → Terminal
-    made left = record terminal { console = record terminal.console { pending = left } }
+    made_once receive_input input_once (record { never_both = λ s readable k g gives lacks. lacks }) 0
+    (λ left. record terminal { console = record terminal.console { pending = left } }) m n o u v w
+    terminal.console.pending a.left b.left one other a.notified b.notified a.is b.is
 
 outputs_once : (terminal : Terminal) (m n o : Memory) (u v w : WindowState) (one other : Terminal)
-    → TransmitsOutput terminal m n u v one → TransmitsOutput terminal m o u w other → AreOne n o v w one other
+    → TransmitsOutput terminal m n u v one → TransmitsOutput terminal m o u w other → SameEnd n o v w one other
 outputs_once terminal m n o u v w one other a b =
-    let device = transmit_within (Some terminal_limit) in
-    let end = one_end device 1 (queue_at 1 u) m n o u v w terminal.waiting a.out b.out
-    (one_service device (within_once (Some terminal_limit)) (within_decides terminal_limit) terminal.waiting)
-    a.notified b.notified in
-    record {
-      memory = end.memory;
-      window = end.window;
-      state = a.is ∙ ap made end.state ∙ sym b.is;
-    }
-  where
-    made : List ℕ → Terminal
-    made out = record terminal { waiting = out }
+    made_once (transmit_within (Some terminal_limit)) (within_once (Some terminal_limit))
+    (within_decides terminal_limit) 1 (λ out. record terminal { waiting = out }) m n o u v w terminal.waiting a.out
+    b.out one other a.notified b.notified a.is b.is
 
 terminal_once : (terminal : Terminal) (q : ℕ) (m n o : Memory) (u v w : WindowState) (one other : Terminal)
-    → ServesTerminal terminal q m n u v one → ServesTerminal terminal q m o u w other → AreOne n o v w one other
+    → ServesTerminal terminal q m n u v one → ServesTerminal terminal q m o u w other → SameEnd n o v w one other
 terminal_once terminal zero m n o u v w one other a b = inputs_once terminal m n o u v w one other a b
 terminal_once terminal (suc zero) m n o u v w one other a b = outputs_once terminal m n o u v w one other a b
 terminal_once terminal (suc (suc q)) m n o u v w one other a b =
@@ -148,28 +124,33 @@ terminal_once terminal (suc (suc q)) m n o u v w one other a b =
 
 -- ---- a device, whichever it is
 
+as_once : {State : Type 0} (kind : State → ModelState) (Does Would : State → Type 0) (m n : Memory) (v w : WindowState)
+    (one other : ModelState) → ((s t : State) → Does s → Would t → SameEnd m n v w s t) → ServesAs kind Does one
+    → ServesAs kind Would other → SameEnd m n v w one other
+as_once kind Does Would m n v w one other once a b =
+    let same = once a.after b.after a.serves b.serves in
+    record { memory = same.memory; window = same.window; state = a.is ∙ ap kind same.state ∙ sym b.is }
+
 serves_once : (model : ModelState) (q : ℕ) (m n o : Memory) (u v w : WindowState) (one other : ModelState)
-    → Serves model q m n u v one → Serves model q m o u w other → AreOne n o v w one other
+    → Serves model q m n u v one → Serves model q m o u w other → SameEnd n o v w one other
 serves_once (Entropy pool) zero m n o u v w one other a b =
-    let decides : Decides entropy = record { never_both = λ s readable k g gives lacks. lacks } in
-    let end = one_end entropy 0 (queue_at 0 u) m n o u v w pool a.left b.left
-    (one_service entropy entropy_once decides pool) a.notified b.notified in
-    record { memory = end.memory; window = end.window; state = a.is ∙ ap Entropy end.state ∙ sym b.is }
+    made_once entropy entropy_once (record { never_both = λ s readable k g gives lacks. lacks }) 0 Entropy m n o u v w
+    pool a.left b.left one other a.notified b.notified a.is b.is
 serves_once (Entropy pool) (suc q) m n o u v w one other a b =
     neither_happens m n o u v w (Entropy pool) one other a b
 serves_once (NetworkModel card) q m n o u v w one other a b =
-    let same = card_once card q m n o u v w a.after b.after a.serves b.serves in
-    record { memory = same.memory; window = same.window; state = a.is ∙ ap NetworkModel same.state ∙ sym b.is }
+    as_once NetworkModel (ServesCard card q m n u v) (ServesCard card q m o u w) n o v w one other
+    (λ s t x y. card_once card q m n o u v w s t x y) a b
 serves_once (BlockModel disk) q m n o u v w one other a b =
-    let same = serve_disk disk a.after b.after q m n o u v w a.serves b.serves in
-    record { memory = same.memory; window = same.window; state = a.is ∙ ap BlockModel same.disk ∙ sym b.is }
+    as_once BlockModel (ServesDisk disk q m n u v) (ServesDisk disk q m o u w) n o v w one other
+    (λ s t x y. serve_disk disk s t q m n o u v w x y) a b
 serves_once (ConsoleModel terminal) q m n o u v w one other a b =
-    let same = terminal_once terminal q m n o u v w a.after b.after a.serves b.serves in
-    record { memory = same.memory; window = same.window; state = a.is ∙ ap ConsoleModel same.state ∙ sym b.is }
+    as_once ConsoleModel (ServesTerminal terminal q m n u v) (ServesTerminal terminal q m o u w) n o v w one other
+    (λ s t x y. terminal_once terminal q m n o u v w s t x y) a b
 
 configures_once : (offset value : ℕ) (m n o : Memory) (old one other : DeviceState)
     → IsConfigured offset value m n old one → IsConfigured offset value m o old other
-    → AreOne n o one.window other.window one.model other.model
+    → SameEnd n o one.window other.window one.model other.model
 configures_once offset value m n o old one other a b = record {
   memory = a.memory ∙ sym b.memory;
   window = ap (λ (d : DeviceState). d.window) (a.is ∙ sym b.is);
@@ -178,7 +159,7 @@ configures_once offset value m n o old one other a b = record {
 
 finishes_once : (action : Action) (m n o : Memory) (old one other : DeviceState)
     → Finishes action m n old one → Finishes action m o old other
-    → AreOne n o one.window other.window one.model other.model
+    → SameEnd n o one.window other.window one.model other.model
 finishes_once (Notify q) m n o old one other a b =
     serves_once old.model q m n o old.window one.window other.window one.model other.model a b
 finishes_once (ConfigWrite offset width value) m n o old one other a b =
@@ -187,7 +168,7 @@ finishes_once _ m n o old one other a b =
     neither_happens m n o old.window one.window other.window old.model one.model other.model a b
 
 same_device : (m n : Memory) (one other : DeviceState)
-    → AreOne m n one.window other.window one.model other.model → one ≡ other
+    → SameEnd m n one.window other.window one.model other.model → one ≡ other
 same_device m n one other same = ap₂ made same.window same.state
   where
     made : WindowState → ModelState → DeviceState
@@ -196,7 +177,7 @@ same_device m n one other same = ap₂ made same.window same.state
 -- one device of a list is decided, and so is the list
 at_once : (Changes : Memory → Memory → DeviceState → DeviceState → Type 0)
     → ((m n o : Memory) (old one other : DeviceState) → Changes m n old one → Changes m o old other
-    → AreOne n o one.window other.window one.model other.model)
+    → SameEnd n o one.window other.window one.model other.model)
     → (i : ℕ) (m n o : Memory) (old new new' : List DeviceState) → At Changes i m n old new
     → At Changes i m o old new' → (n ≡ o) × (new ≡ new')
 at_once Changes once i m n o old new new' a b =
@@ -239,13 +220,13 @@ taking_once = after_once without_sent 1
 
 -- and what the host says of a disk
 told_once : (said : HostEvent) (m n o : Memory) (old one other : DeviceState) → Told said m n old one
-    → Told said m o old other → AreOne n o one.window other.window one.model other.model
+    → Told said m o old other → SameEnd n o one.window other.window one.model other.model
 told_once said m n o old one other a b =
     let found : BlockModel a.before ≡ BlockModel b.before = sym a.there ∙ b.there in
     let before : b.before ≡ a.before = cc (found) in
     let same = tell_disk said a.before a.after b.after m n o old.window one.window other.window a.does
     (subst (λ (d : HostedDisk). DoesAsTold said d m o old.window other.window b.after) before b.does) in
-    record { memory = same.memory; window = same.window; state = a.is ∙ ap BlockModel same.disk ∙ sym b.is }
+    record { memory = same.memory; window = same.window; state = a.is ∙ ap BlockModel same.state ∙ sym b.is }
 
 pub word_once : (said : HostEvent) (i : ℕ) (m n o : Memory) (old new new' : List DeviceState)
     → At (Told said) i m n old new → At (Told said) i m o old new' → (n ≡ o) × (new ≡ new')

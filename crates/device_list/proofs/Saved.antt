@@ -98,53 +98,57 @@ not_got [] i le = refl
 not_got (y ∷ xs) zero le = absurd (omega arith)
 not_got (y ∷ xs) (suc i) le = not_got xs i (omega arith)
 
--- ---- the first devices, so many
-
-module _ (m : Memory) (saved : List SavedDevice) (devices : List DeviceState) (count : ℕ) (some : 0 < count) where
-  counted : suc (count - 1) ≡ count
-  counted = omega arith
-
-  again : (r : Option (List DeviceState)) → first_restored m (suc (count - 1)) saved devices ≡ r
-      → first_restored m count saved devices ≡ r
-  again r is = subst (λ (n : ℕ). first_restored m n saved devices ≡ r) counted is
-
-  pub none_saved : slice_get saved (count - 1) ≡ None → first_restored m count saved devices ≡ None
-  none_saved none = again None (rw none refl)
-
-  pub none_there : (s : SavedDevice) → slice_get saved (count - 1) ≡ Some s → slice_get devices (count - 1) ≡ None
-      → first_restored m count saved devices ≡ None
-  none_there s is none = again None (rw (is, none) refl)
-
-  pub none_stands : (s : SavedDevice) (d : DeviceState) → slice_get saved (count - 1) ≡ Some s
-      → slice_get devices (count - 1) ≡ Some d → window_restored (kind_of d.model) m s.window ≡ None
-      → first_restored m count saved devices ≡ None
-  none_stands s d is there none = again None (rw (is, there, none) refl)
-
-  pub none_before : (s : SavedDevice) (d : DeviceState) (w : WindowState) → slice_get saved (count - 1) ≡ Some s
-      → slice_get devices (count - 1) ≡ Some d → window_restored (kind_of d.model) m s.window ≡ Some w
-      → first_restored m (count - 1) saved devices ≡ None → first_restored m count saved devices ≡ None
-  none_before s d w is there stands none = again None (rw (is, there, stands, none) refl)
-
-  pub all_before : (s : SavedDevice) (d : DeviceState) (w : WindowState) (others : List DeviceState) (there : DeviceState)
-      → slice_get saved (count - 1) ≡ Some s → slice_get devices (count - 1) ≡ Some d
-      → window_restored (kind_of d.model) m s.window ≡ Some w
-      → first_restored m (count - 1) saved devices ≡ Some others → slice_get others (count - 1) ≡ Some there
-      → first_restored m count saved devices ≡ Some (slice_set others (count - 1) (record there { window = w }))
-  all_before s d w others there is found stands before after =
-      again (Some (slice_set others (count - 1) (record there { window = w })))
-      (rw (is, found, stands, before, after) refl)
+got_in : (read devices : List DeviceState) (i : ℕ) (d : DeviceState) → read ≡ devices → i < length read
+    → d ≡ slice_index_or read i d → slice_get devices i ≡ Some d
+got_in read devices i d seen lt is =
+    subst (λ (l : List DeviceState). slice_get l i ≡ Some d) seen (got read i d lt is)
 
 -- a list that is as long has an element there too
-pub within : (i : ℕ) (read seen after items : List DeviceState) → i < length read → read ≡ seen
-    → length after ≡ length seen → items ≡ after → i < length items
-within i read seen after items lt is len same =
-    omega (arith, lt, ap (λ (l : List DeviceState). length l) is, len, ap (λ (l : List DeviceState). length l) same)
+pub got_still : (read old after items : List DeviceState) (i : ℕ) (d : DeviceState) → read ≡ old → i < length read
+    → length after ≡ length old → items ≡ after → d ≡ slice_index_or items i d → slice_get items i ≡ Some d
+got_still read old after items i d seen lt len same is =
+    got items i d
+    (omega (arith, lt, ap (λ (l : List DeviceState). length l) seen, len, ap (λ (l : List DeviceState). length l) same))
+    is
 
--- one of its elements is replaced
-pub set_is : {r : Option (List DeviceState)} (items : List DeviceState) (i : ℕ) (there : DeviceState) (w : WindowState)
-    (d : DeviceState) → d ≡ record { window = w; model = there.model }
-    → r ≡ Some (slice_set items i (record there { window = w })) → r ≡ Some (slice_set items i d)
-set_is items i there w d is set = set ∙ ap (λ (x : DeviceState). Some (slice_set items i x)) (sym is)
+-- ---- the first devices, so many
+
+module _ (m : Memory) (saved : List SavedDevice) (devices : List DeviceState) (count : ℕ) (some : 0 < count)
+    (s : SavedDevice) (within : count - 1 < length saved) (first : s ≡ slice_index_or saved (count - 1) s)
+    (read : List DeviceState) (seen : read ≡ devices) where
+  again : (r : Option (List DeviceState)) → first_restored m (suc (count - 1)) saved devices ≡ r
+      → first_restored m count saved devices ≡ r
+  again r is =
+      let counted : suc (count - 1) ≡ count = omega arith in
+      subst (λ (n : ℕ). first_restored m n saved devices ≡ r) counted is
+
+  was_saved : slice_get saved (count - 1) ≡ Some s
+  was_saved = got saved (count - 1) s within first
+
+  pub none_there : length read ≤ count - 1 → first_restored m count saved devices ≡ None
+  none_there le =
+      let none = subst (λ (l : List DeviceState). slice_get l (count - 1) ≡ None) seen (not_got read (count - 1) le) in
+      again None (rw (was_saved, none) refl)
+
+  module _ (d : DeviceState) (lt : count - 1 < length read) (found : d ≡ slice_index_or read (count - 1) d) where
+    there : slice_get devices (count - 1) ≡ Some d
+    there = got_in read devices (count - 1) d seen lt found
+
+    pub none_stands : window_restored (kind_of d.model) m s.window ≡ None → first_restored m count saved devices ≡ None
+    none_stands none = again None (rw (was_saved, there, none) refl)
+
+    module _ (w : WindowState) (stands : window_restored (kind_of d.model) m s.window ≡ Some w) where
+      pub none_before : first_restored m (count - 1) saved devices ≡ None
+          → first_restored m count saved devices ≡ None
+      none_before none = again None (rw (was_saved, there, stands, none) refl)
+
+      pub all_before : (after items : List DeviceState) (here put : DeviceState)
+          → first_restored m (count - 1) saved devices ≡ Some after → items ≡ after
+          → slice_get items (count - 1) ≡ Some here → put ≡ record { window = w; model = here.model }
+          → first_restored m count saved devices ≡ Some (slice_set items (count - 1) put)
+      all_before after items here put before same now made =
+          let others = before ∙ ap (λ (l : List DeviceState). Some l) (sym same) in
+          again (Some (slice_set items (count - 1) put)) (rw (was_saved, there, stands, others, now, made) refl)
 
 pub set_len : (items : List DeviceState) (i : ℕ) (d : DeviceState) (after old : List DeviceState) → items ≡ after
     → length after ≡ length old → length (slice_set items i d) ≡ length old
@@ -205,15 +209,14 @@ idle_at (y ∷ ds) (suc i) d idle there =
 pub restored_sound : (m : Memory) (saved : List SavedDevice) (old read after items : List DeviceState) (i : ℕ)
     (s : SavedDevice) (d there put : DeviceState) (w : WindowState) → are_at_work old ≡ false
     → SuitDevices saved old → AreSoundDevices m old
-    → AreSoundDevices m after → items ≡ after → slice_get saved i ≡ Some s → i < length read
+    → AreSoundDevices m after → items ≡ after → i < length saved → s ≡ slice_index_or saved i s → i < length read
     → d ≡ slice_index_or read i d → read ≡ old → slice_get items i ≡ Some there → slice_get after i ≡ slice_get old i
     → put ≡ record { window = w; model = there.model } → w.kind ≡ kind_of d.model → saved_window w ≡ s.window
     → IsSound m w → AreSoundDevices m (slice_set items i put)
-restored_sound m saved old read after items i s d there put w idle suit sound so same is lt found seen now above made kind
-    again here =
-    let at_old : slice_get old i ≡ Some d =
-    subst (λ (l : List DeviceState). slice_get l i ≡ Some d) seen (got read i d lt found) in
-    let suits = suits_at saved old i s d suit is at_old in
+restored_sound m saved old read after items i s d there put w idle suit sound so same within first lt found seen now
+    above made kind again here =
+    let at_old : slice_get old i ≡ Some d = got_in read old i d seen lt found in
+    let suits = suits_at saved old i s d suit (got saved i s within first) at_old in
     let was = sound_at m read i d (subst (λ (l : List DeviceState). AreSoundDevices m l) (sym seen) sound) lt found in
     let model_is : there ≡ d =
     some_is there d (sym now ∙ (ap (λ (l : List DeviceState). slice_get l i) same ∙ (above ∙ at_old))) in
@@ -226,8 +229,7 @@ restored_sound m saved old read after items i s d there put w idle suit sound so
       window = here;
       held = held_idle m w there.model (ap is_at_work models ∙ idle_at old i d idle at_old);
     } in
-    all_sound m m items i put (record { base = refl; size = refl; gaps = refl })
-    (subst (λ (l : List DeviceState). AreSoundDevices m l) (sym same) so)
+    all_sound m m items after i put same (record { base = refl; size = refl; gaps = refl }) so
     (subst (IsSoundDevice m) (sym made) one)
 
 -- ---- what is saved gives each window back
@@ -243,10 +245,6 @@ restores_more m (y ∷ ds) d some is first others sound =
           (first (subst (IsSoundDevice m) (sym is) (sound 0 y (omega arith)))),
       rest (λ k e lt. sound (suc k) e (omega arith)),
     )
-
-pub restores_none : (m : Memory) (ds : List DeviceState) → length ds < 1 → RestoresEach m ds
-restores_none m [] none = tt
-restores_none m (y ∷ ds) none = absurd (omega arith)
 
 -- ---- what a look into a list finds
 

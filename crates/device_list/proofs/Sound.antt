@@ -1,6 +1,6 @@
 -- Devices stay sound where the bytes of the memory change, and where one of them does its part.
 use Rattle.std.proofs.Common.{◌≡◌, ℕ, List, refl, sym, ◌∙◌, subst}
-use Rattle.std.specs.Prelude.{◌<◌, [], ◌∷◌, ◌++◌, Bool, true, false, if◌then◌else◌, get_or, is_some, length, slice_set}
+use Rattle.std.specs.Prelude.{◌<◌, [], ◌∷◌, ◌++◌, Bool, true, false, if◌then◌else◌, get_or, length, slice_set}
 use Rattle.std.proofs.lemmas.List.Elements.{All-get_or, All-push, All-set, All-weaker}
 use Rattle.guest_memory.specs.Memory.{Memory, SameRange}
 use Rattle.mmio_window.proofs.Soundness.{IsSound-same_range}
@@ -13,9 +13,8 @@ use Rattle.device_list.specs.Device.{DeviceState, IsSoundDevice, fresh_device}
 use Rattle.device_list.specs.List.{AreSoundDevices}
 use Rattle.hosted_disk.specs.Disk.{fresh_disk}
 use Rattle.hosted_disk.proofs.Flights.{idle_held, keeps_all, none_taken, still_held, written_held}
-use Rattle.device_list.specs.Card.{Card}
 use Rattle.device_list.specs.declared.spec.DeviceSpec.TheVariants as spec
-use Rattle.device_list.specs.Model.{ModelState, Block, Console, Entropy, Network, IsHeld, card_of, features_of, fresh_model, is_at_work, kind_of, must_wait, with_card}
+use Rattle.device_list.specs.Model.{ModelState, Block, Console, Entropy, Network, IsHeld, features_of, fresh_model, is_at_work, kind_of, must_wait}
 
 -- a device that was sound is so with this window and this model
 pub made_sound : (m m' : Memory) (d : DeviceState) (w : WindowState) (model : ModelState) → IsSoundDevice m d
@@ -62,14 +61,6 @@ held_fresh m w (spec.Block sectors read_only identity depth) =
     idle_held m w (fresh_disk sectors read_only identity depth) (none_taken depth)
 held_fresh m w (spec.Console cols rows) = tt
 
--- and a card has nothing in flight
-pub held_card : (change : Card → Card) (m : Memory) (w : WindowState) (model : ModelState)
-    → is_some (card_of model) ≡ true → IsHeld m w (with_card change model)
-held_card change m w (Network card) is = tt
-held_card change m w (Entropy pool) is = absurd (cc is)
-held_card change m w (Block disk) is = absurd (cc is)
-held_card change m w (Console terminal) is = absurd (cc is)
-
 pub sound_over : (m m' : Memory) (d : DeviceState) → SameRange m m' → IsSoundDevice m d → IsSoundDevice m' d
 sound_over m m' d range sound = record {
   kind = sound.kind;
@@ -90,18 +81,31 @@ written_sound m m' d offset width value u w model is sound kind offered same_kin
     made_sound m m' d w model sound (kind ∙ now.kind) (offered ∙ now.offered) (sym same_kind)
     (sym same_features) here held
 
--- where one of them changed, and the memory with it
-pub all_sound : (m m' : Memory) (devices : List DeviceState) (i : ℕ) (d : DeviceState) → SameRange m m'
-    → AreSoundDevices m devices → IsSoundDevice m' d → AreSoundDevices m' (slice_set devices i d)
-all_sound m m' devices i d range sound here =
-    All-set (IsSoundDevice m') devices i d here
-    (All-weaker (IsSoundDevice m) (IsSoundDevice m') (λ found was. sound_over m m' found range was) devices sound)
+-- ---- each of them
 
--- and where it changed alone
 pub still_sound : (m m' : Memory) (devices : List DeviceState) → SameRange m m' → AreSoundDevices m devices
     → AreSoundDevices m' devices
 still_sound m m' devices range sound =
     All-weaker (IsSoundDevice m) (IsSoundDevice m') (λ found was. sound_over m m' found range was) devices sound
+
+pub one_sound : (m : Memory) (devices : List DeviceState) (i : ℕ) (d : DeviceState) → AreSoundDevices m devices
+    → i < length devices → d ≡ get_or devices i d → IsSoundDevice m d
+one_sound m devices i d sound within is =
+    subst (λ (found : DeviceState). IsSoundDevice m found) (sym is) (All-get_or (IsSoundDevice m) devices i d within sound)
+
+-- where one of them changed, and the memory with it
+pub all_sound : (m m' : Memory) (devices old : List DeviceState) (i : ℕ) (d : DeviceState) → devices ≡ old
+    → SameRange m m' → AreSoundDevices m old → IsSoundDevice m' d → AreSoundDevices m' (slice_set devices i d)
+all_sound m m' devices old i d is range sound here =
+    rw is (All-set (IsSoundDevice m') old i d here (still_sound m m' old range sound))
+
+-- where it changed alone
+pub one_changed : (m : Memory) (devices old : List DeviceState) (i : ℕ) (d e : DeviceState) → devices ≡ old
+    → i < length devices → d ≡ get_or devices i d → (IsSoundDevice m d → IsSoundDevice m e) → AreSoundDevices m old
+    → AreSoundDevices m (slice_set devices i e)
+one_changed m devices old i d e is within found stays sound =
+    let was = one_sound m devices i d (rw is sound) within found in
+    all_sound m m devices old i e is (record { base = refl; size = refl; gaps = refl }) sound (stays was)
 
 -- a device as after a reset is sound, wherever its memory is
 pub fresh_sound : (m : Memory) (spec : DeviceSpec) → IsSoundDevice m (fresh_device spec)
@@ -119,9 +123,3 @@ pub added_sound : (m : Memory) (devices after : List DeviceState) (d : DeviceSta
 added_sound m devices after d spec true fresh is sound =
     rw (is, fresh) (All-push (IsSoundDevice m) devices (fresh_device spec) sound (fresh_sound m spec))
 added_sound m devices after d spec false fresh is sound = rw is sound
-
--- each of them is
-pub one_sound : (m : Memory) (devices : List DeviceState) (i : ℕ) (d : DeviceState) → AreSoundDevices m devices
-    → i < length devices → d ≡ get_or devices i d → IsSoundDevice m d
-one_sound m devices i d sound within is =
-    subst (λ (found : DeviceState). IsSoundDevice m found) (sym is) (All-get_or (IsSoundDevice m) devices i d within sound)

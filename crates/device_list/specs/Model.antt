@@ -82,34 +82,19 @@ pub record FillsChains (pool : List ℕ) (m m' : Memory) (w w' : WindowState) (m
   pub notified : IsNotified entropy 0 (queue_at 0 w) m m' w w' pool left
   pub is : model' ≡ Entropy left
 
--- A card serves its queue of this number.
-pub record ServesAsCard (card : Card) (q : ℕ) (m m' : Memory) (w w' : WindowState)
-    (model' : ModelState) : Type 0 where
-  pub after : Card
-  pub serves : ServesCard card q m m' w w' after
-  pub is : model' ≡ Network after
-
--- A disk serves its queue of this number.
-pub record ServesAsDisk (disk : HostedDisk) (q : ℕ) (m m' : Memory) (w w' : WindowState)
-    (model' : ModelState) : Type 0 where
-  pub after : HostedDisk
-  pub serves : ServesDisk disk q m m' w w' after
-  pub is : model' ≡ Block after
-
--- A console serves its queue of this number.
-pub record ServesAsTerminal (terminal : Terminal) (q : ℕ) (m m' : Memory) (w w' : WindowState)
-    (model' : ModelState) : Type 0 where
-  pub after : Terminal
-  pub serves : ServesTerminal terminal q m m' w w' after
-  pub is : model' ≡ Console after
+-- A card, a disk or a console serves its queue so, and is of its kind afterwards.
+pub record ServesAs {State : Type 0} (kind : State → ModelState) (Does : State → Type 0) (model' : ModelState) : Type 0 where
+  pub after : State
+  pub serves : Does after
+  pub is : model' ≡ kind after
 
 -- what a device does whose queue of this number is notified
 abbrev pub Serves : ModelState → ℕ → Memory → Memory → WindowState → WindowState → ModelState → Type 0
 Serves (Entropy pool) zero m m' w w' model' = FillsChains pool m m' w w' model'
 Serves (Entropy pool) (suc q) m m' w w' model' = NothingHappens m m' w w' (Entropy pool) model'
-Serves (Network card) q m m' w w' model' = ServesAsCard card q m m' w w' model'
-Serves (Block disk) q m m' w w' model' = ServesAsDisk disk q m m' w w' model'
-Serves (Console terminal) q m m' w w' model' = ServesAsTerminal terminal q m m' w w' model'
+Serves (Network card) q m m' w w' model' = ServesAs Network (ServesCard card q m m' w w') model'
+Serves (Block disk) q m m' w w' model' = ServesAs Block (ServesDisk disk q m m' w w') model'
+Serves (Console terminal) q m m' w w' model' = ServesAs Console (ServesTerminal terminal q m m' w w') model'
 
 -- The device once this value was written at this offset of its window's configuration: a console may take it.
 abbrev pub configured : ℕ → ℕ → ModelState → ModelState
@@ -184,6 +169,12 @@ disk_of model = None
 abbrev pub IsHeld : Memory → WindowState → ModelState → Type 0
 IsHeld m w (Block disk) = HoldsFlights m w disk
 IsHeld m w model = ⊤
+
+-- Of the same type with the same features, and what is in flight of it is held where it was.
+pub record KeepsModel (old new : ModelState) : Type 0 where
+  pub kind : kind_of new ≡ kind_of old
+  pub features : features_of new ≡ features_of old
+  pub held : (m : Memory) (w : WindowState) → IsHeld m w old → IsHeld m w new
 
 -- whether anything is in flight of it
 abbrev pub is_at_work : ModelState → Bool

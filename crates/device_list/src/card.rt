@@ -6,7 +6,7 @@ ghost use Rattle.guest_memory.specs.Memory.{SameRange};
 ghost use Rattle.mmio_window.specs.Soundness.{IsSound};
 ghost use Rattle.network_device.specs.Config.{config_of};
 ghost use Rattle.network_device.specs.Network.{refusal};
-ghost use Rattle.device_list.specs.Card.{ReceivesFrames, ServesCard, TransmitsFrames, fresh_card, is_card_starving, oldest_of, with_frame, with_link, without_oldest};
+ghost use Rattle.device_list.specs.Card.{ServesCard, fresh_card, is_card_starving, oldest_of, with_frame, with_link, without_oldest};
 
 use chain::{Budget, Chain};
 use guest_memory::GuestMemory;
@@ -109,7 +109,8 @@ impl<A: Allocator> NetworkCard<A> {
         self.network.set_link(up);
     }
 
-    /// Serves the queue of this number in its window. `room` is where the chains stand, one after another.
+    /// Serves the queue of this number in its window: the frames that wait go to the driver, and those that
+    /// the driver sent are taken while there is room. `room` is where the chains stand, one after another.
     pub(crate) fn serve<M: Allocator>(
         &mut self,
         q: u16,
@@ -119,59 +120,27 @@ impl<A: Allocator> NetworkCard<A> {
     )
         requires sound { IsSound mem.old window.old }
         ensures serves { ServesCard self.old q mem.old mem.new window.old window.new self.new }
-        ensures kind { window.new.kind ≡ window.old.kind }
-        ensures offered { window.new.negotiation.offered ≡ window.old.negotiation.offered }
         ensures range { SameRange mem.old mem.new }
         ensures sound { IsSound mem.new window.new }
     {
         match q {
-            RECEIVEQ => self.serve_receive(mem, window, room),
-            TRANSMITQ => self.serve_transmit(mem, window, room),
+            RECEIVEQ => {
+                let _ = self
+                    .network
+                    .serve_receive_piece(mem, window, Stage::First, Budget::UNLIMITED, room);
+            }
+            TRANSMITQ => {
+                let _ = self.network.serve_transmit_piece(
+                    mem,
+                    window,
+                    &mut self.sent,
+                    Stage::First,
+                    Budget::UNLIMITED,
+                    room,
+                );
+            }
             _ => (),
         }
-    }
-
-    /// Puts waiting frames into the chains on offer.
-    fn serve_receive<M: Allocator>(
-        &mut self,
-        mem: &mut GuestMemory<M>,
-        window: &mut Window,
-        room: &mut Chain,
-    )
-        requires sound { IsSound mem.old window.old }
-        ensures serves { ReceivesFrames self.old mem.old mem.new window.old window.new self.new }
-        ensures kind { window.new.kind ≡ window.old.kind }
-        ensures offered { window.new.negotiation.offered ≡ window.old.negotiation.offered }
-        ensures range { SameRange mem.old mem.new }
-        ensures sound { IsSound mem.new window.new }
-    {
-        let _ = self
-            .network
-            .serve_receive_piece(mem, window, Stage::First, Budget::UNLIMITED, room);
-    }
-
-    /// Takes the frames of the chains on offer, while there is room.
-    fn serve_transmit<M: Allocator>(
-        &mut self,
-        mem: &mut GuestMemory<M>,
-        window: &mut Window,
-        room: &mut Chain,
-    )
-        requires sound { IsSound mem.old window.old }
-        ensures serves { TransmitsFrames self.old mem.old mem.new window.old window.new self.new }
-        ensures kind { window.new.kind ≡ window.old.kind }
-        ensures offered { window.new.negotiation.offered ≡ window.old.negotiation.offered }
-        ensures range { SameRange mem.old mem.new }
-        ensures sound { IsSound mem.new window.new }
-    {
-        let _ = self.network.serve_transmit_piece(
-            mem,
-            window,
-            &mut self.sent,
-            Stage::First,
-            Budget::UNLIMITED,
-            room,
-        );
     }
 
     /// Whether a chain is on offer in the receive queue and no frame waits for it.

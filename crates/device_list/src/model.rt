@@ -1,11 +1,10 @@
 //! What stands behind a device's window.
 
 ghost use Rattle.std.specs.Prelude.{◌≡◌, false, IfOk};
-ghost use Rattle.guest_memory.specs.Memory.{Memory, SameRange};
+ghost use Rattle.guest_memory.specs.Memory.{SameRange};
 ghost use Rattle.mmio_window.specs.Soundness.{IsSound};
-ghost use Rattle.mmio_window.specs.Window.{WindowState};
 ghost use Rattle.negotiation.specs.Features.{feature_bits};
-ghost use Rattle.device_list.specs.Model.{IsHeld, Serves, config_of, configured, features_of, fresh_model, has_bad_disk, has_bad_mtu, kind_of, must_wait, state_of};
+ghost use Rattle.device_list.specs.Model.{IsHeld, KeepsModel, Serves, config_of, configured, features_of, fresh_model, has_bad_disk, has_bad_mtu, kind_of, must_wait, state_of};
 
 mod host;
 mod saved;
@@ -115,9 +114,7 @@ impl<A: Allocator> DeviceModel<A> {
     /// Takes what its driver wrote to its configuration, at this offset of its window.
     pub(crate) fn configure(&mut self, offset: u16, value: u32)
         ensures configured { state_of self.new ≡ configured offset value (state_of self.old) }
-        ensures same_kind { kind_of (state_of self.new) ≡ kind_of (state_of self.old) }
-        ensures same_features { features_of (state_of self.new) ≡ features_of (state_of self.old) }
-        ensures held { (m : Memory) (w : WindowState) → IsHeld m w (state_of self.old) → IsHeld m w (state_of self.new) }
+        ensures keeps { KeepsModel (state_of self.old) (state_of self.new) }
     {
         match self {
             DeviceModel::Entropy(_) | DeviceModel::Network(_) | DeviceModel::Block(_) => (),

@@ -7,7 +7,7 @@ ghost use Rattle.mmio_window.specs.Soundness.{IsSound};
 ghost use Rattle.negotiation.specs.Features.{feature_bits};
 ghost use Rattle.console_device.specs.Config.{config_of, console_features};
 ghost use Rattle.console_device.specs.Input.{fitting};
-ghost use Rattle.device_list.specs.Terminal.{ReceivesInput, ServesTerminal, TransmitsOutput, fresh_terminal, is_terminal_starving, output_of, terminal_configured, with_emergency, with_size, with_typed, without_output};
+ghost use Rattle.device_list.specs.Terminal.{ServesTerminal, fresh_terminal, is_terminal_starving, output_of, terminal_configured, with_emergency, with_size, with_typed, without_output};
 
 use chain::{Budget, Chain};
 use console_device::{ConsoleDevice, EMERGENCY_WRITE, RECEIVEQ, TRANSMITQ};
@@ -129,7 +129,8 @@ impl<A: Allocator> Terminal<A> {
         let _ = self.console.emergency(byte, &mut self.output);
     }
 
-    /// Serves the queue of this number in its window. `room` is where the chains stand, one after another.
+    /// Serves the queue of this number in its window: pending input goes to the driver, and the bytes that
+    /// the driver sent are taken while there is room. `room` is where the chains stand, one after another.
     pub(crate) fn serve<M: Allocator>(
         &mut self,
         q: u16,
@@ -139,59 +140,27 @@ impl<A: Allocator> Terminal<A> {
     )
         requires sound { IsSound mem.old window.old }
         ensures serves { ServesTerminal self.old q mem.old mem.new window.old window.new self.new }
-        ensures kind { window.new.kind ≡ window.old.kind }
-        ensures offered { window.new.negotiation.offered ≡ window.old.negotiation.offered }
         ensures range { SameRange mem.old mem.new }
         ensures sound { IsSound mem.new window.new }
     {
         match q {
-            RECEIVEQ => self.serve_receive(mem, window, room),
-            TRANSMITQ => self.serve_transmit(mem, window, room),
+            RECEIVEQ => {
+                let _ = self
+                    .console
+                    .serve_receive_piece(mem, window, Stage::First, Budget::UNLIMITED, room);
+            }
+            TRANSMITQ => {
+                let _ = self.console.serve_transmit_piece(
+                    mem,
+                    window,
+                    &mut self.output,
+                    Stage::First,
+                    Budget::UNLIMITED,
+                    room,
+                );
+            }
             _ => (),
         }
-    }
-
-    /// Puts pending input into the chains on offer.
-    fn serve_receive<M: Allocator>(
-        &mut self,
-        mem: &mut GuestMemory<M>,
-        window: &mut Window,
-        room: &mut Chain,
-    )
-        requires sound { IsSound mem.old window.old }
-        ensures serves { ReceivesInput self.old mem.old mem.new window.old window.new self.new }
-        ensures kind { window.new.kind ≡ window.old.kind }
-        ensures offered { window.new.negotiation.offered ≡ window.old.negotiation.offered }
-        ensures range { SameRange mem.old mem.new }
-        ensures sound { IsSound mem.new window.new }
-    {
-        let _ = self
-            .console
-            .serve_receive_piece(mem, window, Stage::First, Budget::UNLIMITED, room);
-    }
-
-    /// Takes the bytes of the chains on offer, while there is room.
-    fn serve_transmit<M: Allocator>(
-        &mut self,
-        mem: &mut GuestMemory<M>,
-        window: &mut Window,
-        room: &mut Chain,
-    )
-        requires sound { IsSound mem.old window.old }
-        ensures serves { TransmitsOutput self.old mem.old mem.new window.old window.new self.new }
-        ensures kind { window.new.kind ≡ window.old.kind }
-        ensures offered { window.new.negotiation.offered ≡ window.old.negotiation.offered }
-        ensures range { SameRange mem.old mem.new }
-        ensures sound { IsSound mem.new window.new }
-    {
-        let _ = self.console.serve_transmit_piece(
-            mem,
-            window,
-            &mut self.output,
-            Stage::First,
-            Budget::UNLIMITED,
-            room,
-        );
     }
 
     /// Whether a chain is on offer in the receive queue and no input is pending for it.

@@ -1,4 +1,3 @@
 pub mod Filling
 pub mod Pool
 pub mod Services
-pub mod Waiting

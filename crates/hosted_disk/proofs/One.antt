@@ -5,6 +5,7 @@ use Rattle.guest_memory.specs.Memory.{Memory}
 use Rattle.mmio_window.specs.declared.queue.Queue.{Queue}
 use Rattle.mmio_window.specs.declared.stage.Stage.TheVariants.{First}
 use Rattle.mmio_window.specs.Window.{WindowState, queue_at}
+use Rattle.mmio_window.proofs.OneEnd.{SameEnd}
 use Rattle.block_device.specs.declared.device.BlockDevice.{BlockDevice}
 use Rattle.block_device.specs.declared.operation.Verdict.{Verdict}
 use Rattle.block_device.specs.Flights.{HostedQueue, InFlight, IsLanding, IsLook, LandsBy}
@@ -47,29 +48,24 @@ unless_queue false device old one other x y = look_queue device old one other x 
 
 -- ---- a disk
 
-pub record AreOne (m n : Memory) (v w : WindowState) (one other : HostedDisk) : Type 0 where
-  pub memory : m ≡ n
-  pub window : v ≡ w
-  pub disk : one ≡ other
-
 look_disk : (disk one other : HostedDisk) (m n o : Memory) (u v w : WindowState)
-    → LooksAtQueue disk m n u v one → LooksAtQueue disk m o u w other → AreOne n o v w one other
+    → LooksAtQueue disk m n u v one → LooksAtQueue disk m o u w other → SameEnd n o v w one other
 look_disk disk one other m n o u v w x y =
     let same = unless_queue disk.on_hold disk.device (queue_of m u disk) (queue_of n v one) (queue_of o w other)
     x.looks y.looks in
     record {
       memory = ap (λ (q : HostedQueue). q.memory) same;
       window = ap (λ (q : HostedQueue). q.window) same;
-      disk = x.is ∙ ap (λ (q : HostedQueue). record disk { tags = q.tags }) same ∙ sym y.is;
+      state = x.is ∙ ap (λ (q : HostedQueue). record disk { tags = q.tags }) same ∙ sym y.is;
     }
 
 pub serve_disk : (disk one other : HostedDisk) (q : ℕ) (m n o : Memory) (u v w : WindowState)
-    → ServesDisk disk q m n u v one → ServesDisk disk q m o u w other → AreOne n o v w one other
+    → ServesDisk disk q m n u v one → ServesDisk disk q m o u w other → SameEnd n o v w one other
 serve_disk disk one other zero m n o u v w x y = look_disk disk one other m n o u v w x y
 serve_disk disk one other (suc q) m n o u v w x y = record {
   memory = x.memory ∙ sym y.memory;
   window = x.window ∙ sym y.window;
-  disk = x.state ∙ sym y.state;
+  state = x.state ∙ sym y.state;
 }
 
 told_queue : (said : HostEvent) (device : BlockDevice) (on_hold : Bool) (old one other : HostedQueue)
@@ -83,14 +79,14 @@ told_queue Hold device on_hold old one other x y = x ∙ sym y
 told_queue Release device on_hold old one other x y = look_queue device old one other x y
 
 pub tell_disk : (said : HostEvent) (disk one other : HostedDisk) (m n o : Memory) (u v w : WindowState)
-    → DoesAsTold said disk m n u v one → DoesAsTold said disk m o u w other → AreOne n o v w one other
+    → DoesAsTold said disk m n u v one → DoesAsTold said disk m o u w other → SameEnd n o v w one other
 tell_disk said disk one other m n o u v w x y =
     let same = told_queue said disk.device disk.on_hold (queue_of m u disk) (queue_of n v one) (queue_of o w other)
     x.queue y.queue in
     record {
       memory = ap (λ (q : HostedQueue). q.memory) same;
       window = ap (λ (q : HostedQueue). q.window) same;
-      disk =
+      state =
           x.is ∙ ap (λ (q : HostedQueue). record disk { tags = q.tags; on_hold = held_by said disk.on_hold }) same
           ∙ sym y.is;
     }

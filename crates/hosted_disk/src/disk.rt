@@ -1,12 +1,11 @@
 //! The disk, and what its driver and its host do to it.
 
-ghost use Rattle.std.specs.Prelude.{◌≡◌, ◌*◌, ◌^◌, ◌<◌, ◌≤◌, IfOk, None, true, get_or, not};
+ghost use Rattle.std.specs.Prelude.{◌≡◌, ◌*◌, ◌^◌, ◌<◌, ◌≤◌, IfOk, None, get_or};
 ghost use Rattle.std.specs.Bool.{OnTrue, OnFalse};
 ghost use Rattle.guest_memory.specs.Memory.{Memory, SameRange};
 ghost use Rattle.mmio_window.specs.Soundness.{IsSound};
 ghost use Rattle.block_device.specs.Extent.{sector_len};
 ghost use Rattle.block_device.specs.Flights.{IsLanding, given_up, is_any};
-ghost use Rattle.block_device.specs.declared.operation.HostEvent.{HostEvent};
 ghost use Rattle.hosted_disk.specs.Disk.{HoldsFlights, LooksAtQueue, ServesDisk, fresh_disk, must_wait, queue_of};
 ghost use Rattle.hosted_disk.specs.Told.{DoesAsTold, has_effect};
 
@@ -121,10 +120,27 @@ impl<A: Allocator> HostedDisk<A> {
         ensures held { HoldsFlights mem.new window.new self.new }
     {
         match said {
-            HostEvent::Complete { tag, verdict } => self.complete(tag, verdict, mem, window, room),
+            HostEvent::Complete { tag, verdict } => {
+                if !self.land(tag, verdict, mem, window) {
+                    return false;
+                }
+                self.look(mem, window, room);
+                true
+            }
             HostEvent::Drop => self.give_up(window),
-            HostEvent::Hold => self.hold(),
-            HostEvent::Release => self.release(mem, window, room),
+            HostEvent::Hold => {
+                let free = !self.on_hold;
+                self.on_hold = true;
+                free
+            }
+            HostEvent::Release => {
+                if !self.on_hold {
+                    return false;
+                }
+                self.on_hold = false;
+                self.look(mem, window, room);
+                true
+            }
         }
     }
 
@@ -148,37 +164,6 @@ impl<A: Allocator> HostedDisk<A> {
         if !self.on_hold {
             self.device.look(mem, window, &mut self.flights, room);
         }
-    }
-
-    // Completes the operation of this tag, and looks at the queue again. False where no operation has the tag.
-    fn complete<M: Allocator>(
-        &mut self,
-        tag: u8,
-        verdict: Verdict,
-        mem: &mut GuestMemory<M>,
-        window: &mut Window,
-        room: &mut Chain,
-    ) -> bool
-        requires sound { IsSound mem.old window.old }
-        requires held { HoldsFlights mem.old window.old self.old }
-        ensures found { result ≡ has_effect (HostEvent.Complete tag verdict) self.old }
-        ensures does { OnTrue result (DoesAsTold (HostEvent.Complete tag verdict) self.old mem.old mem.new
-            window.old window.new self.new) }
-        ensures kept { OnFalse result (self.new ≡ self.old) }
-        ensures unwritten { OnFalse result (mem.new ≡ mem.old) }
-        ensures untouched { OnFalse result (window.new ≡ window.old) }
-        ensures device { self.new.device ≡ self.old.device }
-        ensures kind { window.new.kind ≡ window.old.kind }
-        ensures offered { window.new.negotiation.offered ≡ window.old.negotiation.offered }
-        ensures range { SameRange mem.old mem.new }
-        ensures sound { IsSound mem.new window.new }
-        ensures held { HoldsFlights mem.new window.new self.new }
-    {
-        if !self.land(tag, verdict, mem, window) {
-            return false;
-        }
-        self.look(mem, window, room);
-        true
     }
 
     // Completes the operation of this tag. False where no operation has the tag.
@@ -227,45 +212,5 @@ impl<A: Allocator> HostedDisk<A> {
             self.flights.give_up(window);
         }
         busy
-    }
-
-    // Has no further chain taken. False where the queue is on hold already.
-    fn hold(&mut self) -> bool
-        ensures value { result ≡ not self.old.on_hold }
-        ensures held { self.new ≡ record self.old { on_hold = true } }
-    {
-        let free = !self.on_hold;
-        self.on_hold = true;
-        free
-    }
-
-    // Has chains taken again, and looks at the queue. False where it isn't on hold.
-    fn release<M: Allocator>(
-        &mut self,
-        mem: &mut GuestMemory<M>,
-        window: &mut Window,
-        room: &mut Chain,
-    ) -> bool
-        requires sound { IsSound mem.old window.old }
-        requires held { HoldsFlights mem.old window.old self.old }
-        ensures found { result ≡ self.old.on_hold }
-        ensures does { OnTrue result (DoesAsTold HostEvent.Release self.old mem.old mem.new
-            window.old window.new self.new) }
-        ensures kept { OnFalse result (self.new ≡ self.old) }
-        ensures unwritten { OnFalse result (mem.new ≡ mem.old) }
-        ensures untouched { OnFalse result (window.new ≡ window.old) }
-        ensures device { self.new.device ≡ self.old.device }
-        ensures kind { window.new.kind ≡ window.old.kind }
-        ensures offered { window.new.negotiation.offered ≡ window.old.negotiation.offered }
-        ensures range { SameRange mem.old mem.new }
-        ensures sound { IsSound mem.new window.new }
-        ensures held { HoldsFlights mem.new window.new self.new }
-    {
-        if !self.on_hold {
-            return false;
-        }
-        self.on_hold = false;
-        self.look(mem, window, room);
-        true
     }
 }

@@ -1,7 +1,7 @@
 -- A run of bytes as frames of some lengths.
-use Rattle.std.proofs.Common.{◌≡◌, ℕ, zero, suc, ◌+◌, ◌-◌, ◌≤◌, arith, List, [], ◌∷◌, ◌++◌, length, take, drop, Option, Some, None, slice_get, refl, sym, ap, ap₂, ◌∙◌, option_map}
+use Rattle.std.proofs.Common.{◌≡◌, ℕ, zero, suc, ◌+◌, ◌-◌, ◌≤◌, arith, List, [], ◌∷◌, ◌++◌, length, take, drop, Some, slice_get, refl, ap, ap₂, ◌∙◌, option_map}
 use Rattle.std.specs.Prelude.{min}
-use Rattle.std.proofs.lemmas.List.{drop-drop, drop-append-le, drop_all, length-append, length-take, length-drop, take-append-le, take_all, take_min}
+use Rattle.std.proofs.lemmas.List.{drop-drop, drop-append-le, drop_all, length-take, length-drop, take-append-le, take_all}
 use Rattle.network_device.specs.Frames.{total, sum_of, cut}
 
 -- as many frames as lengths
@@ -48,12 +48,6 @@ front-cut (n ∷ lens) bytes len e h =
     let same : n ≡ len = omega (arith, h, s, t, k) in
     (omega (arith, h, s, same), ap (λ m. Some (take m bytes)) same)
 
--- no length, no frame
-pub none-cut : (f : Option (List ℕ))
-    → option_map (λ (frame : List ℕ). length frame) f ≡ None → None ≡ f
-none-cut None e = refl
-none-cut (Some x) e = cc
-
 -- more bytes behind make no difference
 pub cut-more : (lens bytes more : List ℕ) → sum_of lens ≤ length bytes
     → cut lens (bytes ++ more) ≡ cut lens bytes
@@ -84,33 +78,6 @@ cut-push (k ∷ lens) bytes n e =
     let d = length-drop k bytes in
     ap (λ (l : List (List ℕ)). take k bytes ∷ l) (cut-push lens (drop k bytes) n (omega (arith, e, s, d))
     ∙ ap (λ (l : List ℕ). cut lens (drop k bytes) ++ l ∷ []) (drop-drop (sum_of lens) k bytes))
-
--- the first bytes of two parts
-take-append : (n : ℕ) (xs ys : List ℕ) → take n (xs ++ ys) ≡ take n xs ++ take (n - length xs) ys
-take-append zero [] ys = refl
-take-append (suc n) [] ys = let e : suc n ≡ suc n - length {A = ℕ} [] = omega arith in ap (λ k. take k ys) e
-take-append zero (x ∷ xs) ys = let e : 0 ≡ 0 - length (x ∷ xs) = omega arith in ap (λ k. take k ys) e
-take-append (suc n) (x ∷ xs) ys =
-    let e : n - length xs ≡ suc n - length (x ∷ xs) = omega arith in
-    ap (λ (l : List ℕ). x ∷ l) (take-append n xs ys ∙ ap (λ k. take n xs ++ take k ys) e)
-
-pub two_parts : (front back bytes : List ℕ) (len from_front : ℕ) → front ++ back ≡ bytes
-    → from_front ≡ min (length front) len
-    → take from_front front ++ take (len - from_front) back ≡ take len bytes
-two_parts front back bytes len from_front joined f =
-    let e : from_front ≡ min len (length front) = omega (arith, f) in
-    let first = ap (λ k. take k front) e ∙ take_min len front in
-    let rest : len - from_front ≡ len - length front = omega (arith, f) in
-    ap₂ (λ (a b : List ℕ). a ++ b) first (ap (λ k. take k back) rest) ∙ sym (take-append len front back)
-    ∙ ap (take len) joined
-
-pub part_len : (front back bytes : List ℕ) (len from_front : ℕ) → front ++ back ≡ bytes
-    → from_front ≡ min (length front) len → len ≤ length bytes
-    → len - from_front ≡ length (take (len - from_front) back)
-part_len front back bytes len from_front joined f le =
-    let e = ap (λ (l : List ℕ). length l) joined in let a = length-append front back in
-    let t = length-take (len - from_front) back in
-    omega (arith, f, le, e, a, t)
 
 -- ---- what a store does
 

@@ -1,6 +1,6 @@
--- A piece of a service in which no chain is left on offer, and what a window's guest sees of one.
-use Rattle.std.proofs.Common.{◌≡◌, ◌≢◌, ℕ, Option, Some, None, arith, refl, sym}
-use Rattle.guest_memory.specs.Memory.{Memory, SameRange}
+-- A piece of a service in which no chain is left on offer.
+use Rattle.std.proofs.Common.{◌≢◌, Option, Some, None, arith, refl}
+use Rattle.guest_memory.specs.Memory.{Memory}
 use Rattle.chain.specs.declared.fault.Fault.{Fault}
 use Rattle.chain.specs.declared.budget.Budget.{Budget}
 use Rattle.chain.specs.Service.{Device, Refused, IsExactUnless}
@@ -10,11 +10,7 @@ use Rattle.mmio_window.specs.declared.service.Left.{Left}
 use Rattle.mmio_window.specs.declared.service.Left.TheVariants.{Open, Closed}
 use Rattle.mmio_window.specs.FaultNote.{fault_in}
 use Rattle.mmio_window.specs.Leaving.{LeavesQueue, site_at}
-use Rattle.mmio_window.specs.Queue.{made_as}
 use Rattle.mmio_window.specs.Serving.{ending_of}
-use Rattle.mmio_window.specs.Soundness.{IsSound}
-use Rattle.mmio_window.specs.Window.{WindowState, queue_at, with_ring}
-use Rattle.mmio_window.proofs.Soundness.{serving_keeps_sound}
 use Rattle.mmio_window.proofs.Stages.{ends_exactly, pauses_exactly}
 use Rattle.network_device.specs.declared.limits.Limits.{Limits}
 use Rattle.network_device.specs.Device.{Passing, receive, receive_fitting, transmit, transmit_fitting}
@@ -47,10 +43,3 @@ leaves_exactly device exact is stage budget queue last m m' s s' Open h =
 leaves_exactly device exact is stage budget queue last m m' s s' (Closed met wanted) h =
     ends_exactly device exact (λ s. 0) is budget (site_at m queue s) (site_at m' last s') refl stage
     (ending_of (fault_in met)) wanted (no_refusal (fault_in met)) h
-
--- and the window stays sound
-pub sound_still : (old new : Memory) (w : WindowState) (q : ℕ) (queue last : Queue) → IsSound old w
-    → SameRange old new → Some queue ≡ queue_at q w → made_as last ≡ made_as queue
-    → IsSound new (with_ring q w last)
-sound_still old new w q queue last sound range lent made =
-    serving_keeps_sound old new w q queue last sound range (sym lent) made

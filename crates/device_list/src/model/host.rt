@@ -3,13 +3,12 @@
 ghost use Rattle.std.specs.Prelude.{◌≡◌, ◌≢◌, ◌++◌, true, Some, None, IfErr, OnOk, OnErr, is_some};
 ghost use Rattle.std.specs.Bool.{OnTrue, OnFalse};
 ghost use Rattle.std.specs.Option.{option_map};
-ghost use Rattle.guest_memory.specs.Memory.{Memory, SameRange};
+ghost use Rattle.guest_memory.specs.Memory.{SameRange};
 ghost use Rattle.mmio_window.specs.Soundness.{IsSound};
-ghost use Rattle.mmio_window.specs.Window.{WindowState};
-ghost use Rattle.hosted_disk.specs.Told.{DoesAsTold, has_effect};
+ghost use Rattle.hosted_disk.specs.Told.{has_effect};
 ghost use Rattle.device_list.specs.Card.{receive_refusal, with_frame, with_link};
 ghost use Rattle.device_list.specs.Device.{Told};
-ghost use Rattle.device_list.specs.Model.{IsHeld, card_of, disk_of, features_of, is_at_work, is_starving, kind_of, sent_of, state_of, supplied_model, taken_of, terminal_of, with_card, with_terminal, without_sent};
+ghost use Rattle.device_list.specs.Model.{IsHeld, KeepsModel, card_of, disk_of, features_of, is_at_work, is_starving, kind_of, sent_of, state_of, supplied_model, taken_of, terminal_of, with_card, with_terminal, without_sent};
 ghost use Rattle.device_list.specs.Terminal.{with_size};
 
 use crate::model::DeviceModel;
@@ -27,9 +26,7 @@ impl<A: Allocator> DeviceModel<A> {
         ensures taken { result ≡ taken_of (state_of self.old) bytes.now }
         ensures supplied { state_of self.new ≡ supplied_model (state_of self.old) bytes.now }
         ensures kept { result ≡ None → state_of self.new ≡ state_of self.old }
-        ensures same_kind { kind_of (state_of self.new) ≡ kind_of (state_of self.old) }
-        ensures same_features { features_of (state_of self.new) ≡ features_of (state_of self.old) }
-        ensures held { (m : Memory) (w : WindowState) → IsHeld m w (state_of self.old) → IsHeld m w (state_of self.new) }
+        ensures keeps { KeepsModel (state_of self.old) (state_of self.new) }
     {
         match self {
             DeviceModel::Entropy(entropy) => Some(entropy.supply(bytes)),
@@ -44,9 +41,7 @@ impl<A: Allocator> DeviceModel<A> {
         ensures taken { OnOk result (state_of self.new ≡ with_card (with_frame frame.now) (state_of self.old)) }
         ensures refused { IfErr result (λ why. receive_refusal frame.now (card_of (state_of self.old)) ≡ Some why) }
         ensures kept { OnErr result (state_of self.new ≡ state_of self.old) }
-        ensures same_kind { kind_of (state_of self.new) ≡ kind_of (state_of self.old) }
-        ensures same_features { features_of (state_of self.new) ≡ features_of (state_of self.old) }
-        ensures held { (m : Memory) (w : WindowState) → IsHeld m w (state_of self.old) → IsHeld m w (state_of self.new) }
+        ensures keeps { KeepsModel (state_of self.old) (state_of self.new) }
     {
         match self {
             DeviceModel::Entropy(_) | DeviceModel::Block(_) | DeviceModel::Console(_) => {
@@ -72,9 +67,7 @@ impl<A: Allocator> DeviceModel<A> {
         ensures found { result ≡ is_some (sent_of (state_of self.old)) }
         ensures taken { OnTrue result (state_of self.new ≡ without_sent (state_of self.old)) }
         ensures kept { OnFalse result (state_of self.new ≡ state_of self.old) }
-        ensures same_kind { kind_of (state_of self.new) ≡ kind_of (state_of self.old) }
-        ensures same_features { features_of (state_of self.new) ≡ features_of (state_of self.old) }
-        ensures held { (m : Memory) (w : WindowState) → IsHeld m w (state_of self.old) → IsHeld m w (state_of self.new) }
+        ensures keeps { KeepsModel (state_of self.old) (state_of self.new) }
     {
         match self {
             DeviceModel::Entropy(_) | DeviceModel::Block(_) => false,
@@ -88,9 +81,7 @@ impl<A: Allocator> DeviceModel<A> {
         ensures found { result ≡ is_some (card_of (state_of self.old)) }
         ensures linked { state_of self.new ≡ with_card (with_link up) (state_of self.old) }
         ensures kept { OnFalse result (state_of self.new ≡ state_of self.old) }
-        ensures same_kind { kind_of (state_of self.new) ≡ kind_of (state_of self.old) }
-        ensures same_features { features_of (state_of self.new) ≡ features_of (state_of self.old) }
-        ensures held { (m : Memory) (w : WindowState) → IsHeld m w (state_of self.old) → IsHeld m w (state_of self.new) }
+        ensures keeps { KeepsModel (state_of self.old) (state_of self.new) }
     {
         match self {
             DeviceModel::Entropy(_) | DeviceModel::Block(_) | DeviceModel::Console(_) => false,
@@ -106,9 +97,7 @@ impl<A: Allocator> DeviceModel<A> {
         ensures found { result ≡ is_some (terminal_of (state_of self.old)) }
         ensures resized { state_of self.new ≡ with_terminal (with_size cols rows) (state_of self.old) }
         ensures kept { OnFalse result (state_of self.new ≡ state_of self.old) }
-        ensures same_kind { kind_of (state_of self.new) ≡ kind_of (state_of self.old) }
-        ensures same_features { features_of (state_of self.new) ≡ features_of (state_of self.old) }
-        ensures held { (m : Memory) (w : WindowState) → IsHeld m w (state_of self.old) → IsHeld m w (state_of self.new) }
+        ensures keeps { KeepsModel (state_of self.old) (state_of self.new) }
     {
         match self {
             DeviceModel::Entropy(_) | DeviceModel::Network(_) | DeviceModel::Block(_) => false,

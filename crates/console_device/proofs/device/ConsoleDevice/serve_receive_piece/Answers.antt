@@ -1,7 +1,8 @@
+use Rattle.std.proofs.Common.{sym}
 use Rattle.mmio_window.proofs.Leaving.{serves_to}
+use Rattle.mmio_window.proofs.Soundness.{serving_keeps_sound}
 use Rattle.mmio_window.specs.Window.{queue_at}
 use Rattle.console_device.specs.Device.{receive}
-use Rattle.console_device.proofs.Notified.{sound_still}
 use Rattle.console_device.proofs.device.ConsoleDevice.serve_receive_piece.Goals as goal
 
 pub returns-clause-served : goal.returns-clause-served
@@ -15,6 +16,6 @@ returns-clause-served g c =
 pub returns-clause-sound : goal.returns-clause-sound
 returns-clause-sound g c =
     c.show.ensures.sound c.serve_queue.new.mem
-    (sound_still c.args.mem.now c.serve_queue.new.mem c.args.window.now 0 c.in-Some.queue.now
+    (serving_keeps_sound c.args.mem.now c.serve_queue.new.mem c.args.window.now 0 c.in-Some.queue.now
     c.serve_queue.new.queue
-    c.requires.sound c.serve_queue.ensures.range c.in-Some.ensures.value c.serve_queue.ensures.made)
+    c.requires.sound c.serve_queue.ensures.range (sym c.in-Some.ensures.value) c.serve_queue.ensures.made)

@@ -1,10 +1,10 @@
-use Rattle.std.proofs.Common.{length, ◌∙◌}
+use Rattle.std.proofs.Common.{length, ◌∙◌, sym}
 use Rattle.guest_memory.proofs.Ranges.{same_trans}
 use Rattle.chain.specs.Bytes.{readable_of, writable_of}
 use Rattle.mmio_window.proofs.Leaving.{refuses_to, serves_to}
+use Rattle.mmio_window.proofs.Soundness.{serving_keeps_sound}
 use Rattle.mmio_window.specs.Window.{queue_at}
 use Rattle.console_device.specs.Device.{transmit_fitting, transmit_within}
-use Rattle.console_device.proofs.Notified.{sound_still}
 use Rattle.console_device.proofs.Pieces.{transmits}
 use Rattle.console_device.proofs.device.ConsoleDevice.serve_transmit_piece.Goals as goal
 
@@ -23,9 +23,9 @@ returns-in-Ok-clause-ok g c =
 pub returns-in-Ok-clause-sound : goal.returns-in-Ok-clause-sound
 returns-in-Ok-clause-sound g c =
     c.show.ensures.sound c.serve_queue.new.mem
-    (sound_still c.args.mem.now c.serve_queue.new.mem c.args.window.now 1 c.in-Some.queue.now
+    (serving_keeps_sound c.args.mem.now c.serve_queue.new.mem c.args.window.now 1 c.in-Some.queue.now
     c.serve_queue.new.queue
-    c.requires.sound c.serve_queue.ensures.range c.in-Some.ensures.value c.serve_queue.ensures.made)
+    c.requires.sound c.serve_queue.ensures.range (sym c.in-Some.ensures.value) c.serve_queue.ensures.made)
 
 pub returns-in-Err-clause-no_memory : goal.returns-in-Err-clause-no_memory
 returns-in-Err-clause-no_memory g c =
@@ -44,8 +44,8 @@ returns-in-Err-clause-no_memory g c =
 pub returns-in-Err-clause-sound : goal.returns-in-Err-clause-sound
 returns-in-Err-clause-sound g c =
     c.show-in-Err.ensures.sound c.close-wanted.new.mem
-    (sound_still c.args.mem.now c.close-wanted.new.mem c.args.window.now 1 c.in-Some.queue.now
+    (serving_keeps_sound c.args.mem.now c.close-wanted.new.mem c.args.window.now 1 c.in-Some.queue.now
     c.close-wanted.new.self
     c.requires.sound (same_trans c.args.mem.now c.serve_queue.new.mem c.close-wanted.new.mem
     c.serve_queue.ensures.range c.close-wanted.ensures.range)
-    c.in-Some.ensures.value (c.close-wanted.ensures.made ∙ c.serve_queue.ensures.made))
+    (sym c.in-Some.ensures.value) (c.close-wanted.ensures.made ∙ c.serve_queue.ensures.made))

@@ -10,5 +10,5 @@ returns-clause-sound g c =
     let taken = c.in_ok-taken.ensures in
     made_sound c.args.mem.now c.serve.new.mem _ c.serve.new.window (state_of c.serve.new.self)
     (subst (λ (d : DeviceState). IsSoundDevice c.args.mem.now d) (sym c.self.view_is) c.requires.sound)
-    served.kind served.offered (sym taken.same_kind ∙ sym served.same_kind) (sym taken.same_features ∙ sym served.same_features)
+    served.kind served.offered (sym taken.keeps.kind ∙ sym served.same_kind) (sym taken.keeps.features ∙ sym served.same_features)
     served.sound served.held

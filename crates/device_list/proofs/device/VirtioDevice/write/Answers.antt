@@ -17,9 +17,9 @@ returns-in-ConfigWrite-clause-sound g c =
     let sound = subst (λ (d : DeviceState). IsSoundDevice c.args.mem.now d) (sym c.self.view_is) c.requires.sound in
     let taken = c.configure.ensures in
     written_sound c.args.mem.now c.args.mem.now _ c.args.offset c.args.width c.args.value c.write.new.self
-    c.write.new.self (state_of c.configure.new.self) c.write.ensures.written sound refl refl taken.same_kind
-    taken.same_features (c.write.ensures.sound sound.window)
-    (taken.held c.args.mem.now c.write.new.self
+    c.write.new.self (state_of c.configure.new.self) c.write.ensures.written sound refl refl taken.keeps.kind
+    taken.keeps.features (c.write.ensures.sound sound.window)
+    (taken.keeps.held c.args.mem.now c.write.new.self
     (rw c.write.ensures.written (held_written c.args.offset c.args.width c.args.value c.args.mem.now
     c.self.inside.window (state_of c.self.inside.model) (sym c.must_wait.ensures ∙ c.if-must_wait.false) sound.held)))
 

@@ -1,6 +1,4 @@
-use Rattle.std.proofs.Common.{◌∙◌, List, sym, subst}
-use Rattle.device_list.specs.Device.{DeviceState}
-use Rattle.device_list.specs.List.{AreSoundDevices}
+use Rattle.std.proofs.Common.{◌∙◌}
 use Rattle.device_list.proofs.Saved.{set_back}
 use Rattle.device_list.proofs.Sound.{all_sound}
 use Rattle.device_list.proofs.list.DeviceList.write.Goals.{then-write, else-write}
@@ -8,9 +6,8 @@ use Rattle.device_list.proofs.list.DeviceList.write.Goals as goal
 
 pub returns-clause-sound : goal.returns-clause-sound
 returns-clause-sound g c =
-    all_sound c.args.mem.now c.write.new.mem c.self.inside.devices.items c.from.result c.write.new.self c.write.ensures.range
-    (subst (λ (l : List DeviceState). AreSoundDevices c.args.mem.now l) (sym c.self.view_is) c.requires.sound)
-    c.write.ensures.sound
+    all_sound c.args.mem.now c.write.new.mem c.self.inside.devices.items c.args.self.now c.from.result c.write.new.self
+    c.self.view_is c.write.ensures.range c.requires.sound c.write.ensures.sound
 
 pub returns-clause-kept : goal.returns-clause-kept
 returns-clause-kept g c = elim c.if-write.branch [

@@ -2,6 +2,8 @@ use Rattle.std.proofs.Common.{refl}
 use Rattle.mmio_window.specs.declared.stage.Stage.TheVariants.{First}
 use Rattle.mmio_window.proofs.Devices.{KeepsDevice-served}
 use Rattle.entropy_device.specs.Device.{entropy}
+use Rattle.device_list.proofs.Cards.{card_keeps}
+use Rattle.device_list.proofs.Terminals.{terminal_keeps}
 use Rattle.device_list.proofs.model.DeviceModel.serve.Goals as goal
 use Rattle.device_list.proofs.model.DeviceModel.serve.Goals.{in-Block-default, in-Console-default, in-Entropy-eq0, in-Entropy-default, in-Network-default}
 
@@ -12,9 +14,10 @@ returns-clause-kind g c =
           rw (w.window-is)
           ((KeepsDevice-served entropy _ 0 First _ _ _ _ _ _ _ _ w.serve_piece.ensures.served).kind)
       | in-Entropy-default w ↦ rw (w.window-is) refl
-      | in-Network-default w ↦ rw (w.window-is) (w.serve.ensures.kind)
+      | in-Network-default w ↦ rw (w.window-is) ((card_keeps _ _ c.args.q _ _ _ _ w.serve.ensures.serves).kind)
       | in-Block-default w ↦ rw (w.window-is) (w.serve-in-Block-default.ensures.kind)
-      | in-Console-default w ↦ rw (w.window-is) (w.serve-in-Console-default.ensures.kind)
+      | in-Console-default w ↦
+          rw (w.window-is) ((terminal_keeps _ _ c.args.q _ _ _ _ w.serve-in-Console-default.ensures.serves).kind)
     ]
 
 pub returns-clause-offered : goal.returns-clause-offered
@@ -24,7 +27,8 @@ returns-clause-offered g c =
           rw (w.window-is)
           ((KeepsDevice-served entropy _ 0 First _ _ _ _ _ _ _ _ w.serve_piece.ensures.served).offered)
       | in-Entropy-default w ↦ rw (w.window-is) refl
-      | in-Network-default w ↦ rw (w.window-is) (w.serve.ensures.offered)
+      | in-Network-default w ↦ rw (w.window-is) ((card_keeps _ _ c.args.q _ _ _ _ w.serve.ensures.serves).offered)
       | in-Block-default w ↦ rw (w.window-is) (w.serve-in-Block-default.ensures.offered)
-      | in-Console-default w ↦ rw (w.window-is) (w.serve-in-Console-default.ensures.offered)
+      | in-Console-default w ↦
+          rw (w.window-is) ((terminal_keeps _ _ c.args.q _ _ _ _ w.serve-in-Console-default.ensures.serves).offered)
     ]

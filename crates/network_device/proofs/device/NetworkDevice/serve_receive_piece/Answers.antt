@@ -1,11 +1,12 @@
-use Rattle.std.proofs.Common.{length, ◌∙◌, inl, inr, refl, ap}
+use Rattle.std.proofs.Common.{length, ◌∙◌, inl, inr, refl, ap, sym}
 use Rattle.guest_memory.proofs.Ranges.{same_trans}
 use Rattle.chain.specs.Bytes.{readable_of, writable_of}
 use Rattle.mmio_window.proofs.Leaving.{refuses_to, serves_to}
+use Rattle.mmio_window.proofs.Soundness.{serving_keeps_sound}
 use Rattle.mmio_window.specs.Window.{queue_at}
 use Rattle.network_device.specs.Device.{passing, receive, receive_fitting}
 use Rattle.network_device.specs.Network.{Network}
-use Rattle.network_device.proofs.Pieces.{leaves_exactly, receive_exact, sound_still}
+use Rattle.network_device.proofs.Pieces.{leaves_exactly, receive_exact}
 use Rattle.network_device.proofs.device.NetworkDevice.serve_receive_piece.Goals as goal
 
 pub returns-in-Ok-clause-served : goal.returns-in-Ok-clause-served
@@ -25,9 +26,9 @@ returns-in-Ok-clause-served g c =
 pub returns-in-Ok-clause-sound : goal.returns-in-Ok-clause-sound
 returns-in-Ok-clause-sound g c =
     c.show.ensures.sound c.serve_queue-served.new.mem
-    (sound_still c.args.mem.now c.serve_queue-served.new.mem c.args.window.now 0 c.in-Some.queue.now
+    (serving_keeps_sound c.args.mem.now c.serve_queue-served.new.mem c.args.window.now 0 c.in-Some.queue.now
     c.serve_queue-served.new.queue
-    c.requires.sound c.serve_queue-served.ensures.range c.in-Some.ensures.value c.serve_queue-served.ensures.made)
+    c.requires.sound c.serve_queue-served.ensures.range (sym c.in-Some.ensures.value) c.serve_queue-served.ensures.made)
 
 pub returns-in-Err-clause-served : goal.returns-in-Err-clause-served
 returns-in-Err-clause-served g c =
@@ -56,8 +57,8 @@ returns-in-Err-clause-served g c =
 pub returns-in-Err-clause-sound : goal.returns-in-Err-clause-sound
 returns-in-Err-clause-sound g c =
     c.show-in-Err.ensures.sound c.close-wanted.new.mem
-    (sound_still c.args.mem.now c.close-wanted.new.mem c.args.window.now 0 c.in-Some.queue.now
+    (serving_keeps_sound c.args.mem.now c.close-wanted.new.mem c.args.window.now 0 c.in-Some.queue.now
     c.close-wanted.new.self
     c.requires.sound (same_trans c.args.mem.now c.serve_queue-served.new.mem c.close-wanted.new.mem
     c.serve_queue-served.ensures.range c.close-wanted.ensures.range)
-    c.in-Some.ensures.value (c.close-wanted.ensures.made ∙ c.serve_queue-served.ensures.made))
+    (sym c.in-Some.ensures.value) (c.close-wanted.ensures.made ∙ c.serve_queue-served.ensures.made))
