@@ -1,8 +1,8 @@
 -- A request that was read, and its segments, which are read and then judged.
-use Rattle.std.proofs.Common.{◌≡◌, ℕ, ◌+◌, ◌-◌, ◌*◌, ◌/◌, ◌≤◌, Bool, true, false, not, cond, List, [], ◌∷◌, ◌++◌, length, map, take, drop, refl, sym, ap, subst, ◌∙◌, arith, nat_lt, length-drop}
+use Rattle.std.proofs.Common.{◌≡◌, ℕ, ◌+◌, ◌-◌, ◌/◌, ◌≤◌, Bool, true, false, not, cond, List, [], ◌∷◌, ◌++◌, length, map, take, drop, refl, sym, ap, subst, ◌∙◌, arith, nat_lt, length-drop}
 use Rattle.std.specs.List.{list_all, range_with_len}
 use Rattle.std.proofs.lemmas.Bool.Decides.{nat_tests}
-use Rattle.std.proofs.lemmas.List.{drop-drop, take-take, take_all}
+use Rattle.std.proofs.lemmas.List.{take-take, take_all}
 use Rattle.std.proofs.lemmas.List.FromFn.{length-map-range_with_len, map-range_with_len_more}
 use Rattle.guest_memory.specs.Memory.{Memory}
 use Rattle.chain.specs.declared.segment.Buffer.{Buffer}
@@ -16,7 +16,7 @@ use Rattle.block_device.specs.declared.request.RequestStatus.{RequestStatus}
 use Rattle.block_device.specs.declared.request.RequestStatus.TheVariants.{IoError, Unsupported}
 use Rattle.block_device.specs.Asking.{IsAsked, IsRejected, HasUnreadSegments}
 use Rattle.block_device.specs.Request.{AreJudged, AreRead, payload_of, request_of, sector_in, type_of, typed_request, write_zeroes_request_of}
-use Rattle.block_device.specs.Zeroes.{are_segments, has_known_flags, has_sectors_within, segment_at, segment_of, segments_in}
+use Rattle.block_device.specs.Zeroes.{are_segments, has_known_flags, has_sectors_within, segment_at, segments_in}
 
 -- a header that lies in one part of the readable list
 pub header_in : (part header readable : List ℕ) → part ≡ take (length part) readable → 16 ≤ length part
@@ -56,13 +56,6 @@ pub payload_size : (readable : List ℕ) (len : ℕ) → length readable ≡ len
     → length (payload_of readable) ≡ len - 16
 payload_size readable len size = length-drop 16 readable ∙ ap (λ n. n - 16) size
 
--- the bytes of a segment, read behind the header
-pub segment_read : (bytes readable : List ℕ) (index : ℕ) → bytes ≡ take 16 (drop (16 + 16 * index) readable)
-    → segment_of bytes ≡ segment_at (payload_of readable) index
-segment_read bytes readable index read =
-    ap segment_of (read ∙ ap (take 16) (ap (λ n. drop n readable) (omega arith)
-    ∙ sym (drop-drop (16 * index) 16 readable)))
-
 pub same_segment : (a b c d e f : ℕ) → a ≡ d → b ≡ e → c ≡ f
     → ◌≡◌ {A = WriteZeroesSegment} (record { sector = a; count = b; flags = c })
     (record { sector = d; count = e; flags = f })
@@ -83,14 +76,6 @@ pub segments_more : (payload : List ℕ) (index : ℕ) (read more : List WriteZe
 segments_more payload index read more segment are is put =
     put ∙ ap (λ l. l ++ segment ∷ []) are ∙ ap (λ s. first_segments payload index ++ s ∷ []) is
     ∙ sym (map-range_with_len_more (segment_at payload) 0 index index (omega arith))
-
--- and all of them
-pub segments_all : (payload : List ℕ) (count index : ℕ) (read : List WriteZeroesSegment)
-    → read ≡ first_segments payload index → length payload ≡ 16 * count → index ≡ count
-    → read ≡ segments_in payload
-segments_all payload count index read are size all =
-    let whole : index ≡ length payload / 16 = omega (arith, size, all) in
-    are ∙ ap (first_segments payload) whole
 
 count_of : (payload : List ℕ) (segments : List WriteZeroesSegment) → segments ≡ segments_in payload
     → length segments ≡ length payload / 16

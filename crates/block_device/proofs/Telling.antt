@@ -14,18 +14,18 @@ use Rattle.guest_memory.specs.Memory.{Memory}
 use Rattle.chain.specs.declared.segment.Buffer.{Buffer}
 use Rattle.chain.specs.declared.segment.Segment.{Segment}
 use Rattle.chain.specs.Buffers.{Good}
-use Rattle.chain.specs.Bytes.{len_of, readable_of, segments_of}
+use Rattle.chain.specs.Bytes.{len_of, readable_of, segments_of, writable_of}
 use Rattle.chain.specs.Runs.{has_bytes}
 use Rattle.chain.proofs.Cutting.{runs_few, runs_inside}
-use Rattle.chain.proofs.Directions.{All-segments_of, length-addresses_of, length-readable_of}
+use Rattle.chain.proofs.Directions.{All-segments_of, length-addresses_of}
 use Rattle.block_device.specs.declared.device.BlockDevice.{BlockDevice}
 use Rattle.block_device.specs.declared.operation.Operation.{Operation}
 use Rattle.block_device.specs.declared.request.RequestStatus.TheVariants.{IoError}
 use Rattle.block_device.specs.declared.request.Request.{Request}
 use Rattle.block_device.specs.declared.request.Request.TheVariants.{Rejected, Read, Write, Flush, GetId, WriteZeroes}
 use Rattle.block_device.specs.declared.segments.WriteZeroesSegment.{WriteZeroesSegment}
-use Rattle.block_device.specs.Asking.{IsAsked, asks_image, has_segments}
-use Rattle.block_device.specs.Operation.{IsToldToHost, LiesInside, OnDisk, disk_run, disk_runs, operation_of, runs_for}
+use Rattle.block_device.specs.Asking.{asks_image, has_segments}
+use Rattle.block_device.specs.Operation.{HasPlaces, IsToldToHost, LiesInside, OnDisk, disk_run, disk_runs, operation_of, runs_by, runs_for, runs_with, zeroes_in}
 use Rattle.block_device.specs.Progress.{IsServable}
 use Rattle.block_device.specs.Request.{payload_of, request_of, sector_in, type_of, typed_request}
 use Rattle.block_device.specs.Zeroes.{are_segments, has_sectors_within, segment_at, segments_in}
@@ -49,14 +49,6 @@ few_segments device readable room request is =
 
 -- ---- its places are there
 
-pub read_places : (device : BlockDevice) (m : Memory) (buffers : List Buffer) (request : Request)
-    (sector count : ℕ) → IsAsked device m buffers request → request ≡ Read sector count
-    → 512 * count ≤ len_of true buffers
-read_places device m buffers request sector count a is =
-    let s : IsServable device.extent.count (Read sector count) (payload_of (readable_of m buffers)) a.room =
-    subst (λ r. IsServable device.extent.count r (payload_of (readable_of m buffers)) a.room) is a.servable in
-    omega (arith, s.1, a.all, length-addresses_of true buffers)
-
 -- what is written was behind a whole header
 header_whole : (device : BlockDevice) (readable : List ℕ) (room sector count : ℕ) (short : Bool)
     → nat_lt (length readable) 16 ≡ short
@@ -66,16 +58,20 @@ header_whole : (device : BlockDevice) (readable : List ℕ) (room sector count :
 header_whole device readable room sector count true e is = cc
 header_whole device readable room sector count false e is = grind (arith, nat_tests, e)
 
-pub write_places : (device : BlockDevice) (m : Memory) (buffers : List Buffer) (request : Request)
-    (sector count : ℕ) → Good m buffers → IsAsked device m buffers request → request ≡ Write sector count
-    → 16 + 512 * count ≤ len_of false buffers
-write_places device m buffers request sector count good a is =
-    let readable = readable_of m buffers in
-    let s : IsServable device.extent.count (Write sector count) (payload_of readable) a.room =
-    subst (λ r. IsServable device.extent.count r (payload_of readable) a.room) is a.servable in
-    let whole = header_whole device readable a.room sector count (nat_lt (length readable) 16)
-    refl (sym is ∙ a.is) in
-    omega (arith, s.1, whole, length-drop 16 readable, length-readable_of m buffers good.inside)
+pub places : (device : BlockDevice) (readable : List ℕ) (room : ℕ) (buffers : List Buffer) (request : Request)
+    → length readable ≡ len_of false buffers → length (writable_of buffers) ≡ room + 1
+    → request ≡ request_of device readable room
+    → IsServable device.extent.count request (payload_of readable) room → asks_image request ≡ true
+    → HasPlaces device.extent.count buffers request
+places device readable room buffers (Rejected status) long all is s asks = cc
+places device readable room buffers (Read sector count) long all is s asks =
+    (s.0, omega (arith, s.1, all, length-addresses_of true buffers))
+places device readable room buffers (Write sector count) long all is s asks =
+    let whole = header_whole device readable room sector count (nat_lt (length readable) 16) refl is in
+    (s.0, omega (arith, s.1, whole, length-drop 16 readable, long))
+places device readable room buffers Flush long all is s asks = refl
+places device readable room buffers GetId long all is s asks = cc
+places device readable room buffers (WriteZeroes segments) long all is s asks = refl
 
 -- ---- the runs of a WRITE_ZEROES
 
@@ -131,11 +127,32 @@ pub runs_few_before : (segments : List WriteZeroesSegment) (n : ℕ) (runs : Lis
 runs_few_before segments n runs some h =
     omega (arith, ap length h.are, few_of (take n segments), length-take-le n segments some)
 
+-- of a request with segments the runs are theirs
+pub zeroes_are : (zeroes : List Segment) (request : Request) (buffers : List Buffer) → has_segments request ≡ true
+    → runs_with zeroes request buffers ≡ zeroes
+zeroes_are zeroes (Rejected status) buffers some = cc
+zeroes_are zeroes (Read sector count) buffers some = cc
+zeroes_are zeroes (Write sector count) buffers some = cc
+zeroes_are zeroes Flush buffers some = cc
+zeroes_are zeroes GetId buffers some = cc
+zeroes_are zeroes (WriteZeroes segments) buffers some = refl
+
 -- a WRITE_ZEROES left them
-pub runs_left : (device : BlockDevice) (m : Memory) (buffers : List Buffer) (request : Request)
-    (runs : List Segment) (segments : ℕ) → request ≡ WriteZeroes segments
-    → IsToldToHost device m buffers request runs → runs ≡ runs_for request m buffers
-runs_left device m buffers request runs segments is told = told.zeroes (ap has_segments is)
+pub runs_left : (zeroes kept : List Segment) (request : Request) (buffers : List Buffer)
+    → (has_segments request ≡ true → kept ≡ zeroes)
+    → runs_with kept request buffers ≡ runs_with zeroes request buffers
+runs_left zeroes kept (Rejected status) buffers left = refl
+runs_left zeroes kept (Read sector count) buffers left = refl
+runs_left zeroes kept (Write sector count) buffers left = refl
+runs_left zeroes kept Flush buffers left = refl
+runs_left zeroes kept GetId buffers left = refl
+runs_left zeroes kept (WriteZeroes segments) buffers left = left refl
+
+pub told_runs : (device : BlockDevice) (m : Memory) (buffers : List Buffer) (request : Request) (kept : List Segment)
+    → IsToldToHost device m buffers request kept → runs_with kept request buffers ≡ runs_for request m buffers
+told_runs device m buffers request kept told =
+    let zeroes = zeroes_in (payload_of (readable_of m buffers)) in
+    runs_left zeroes kept request buffers (λ some. told.zeroes some ∙ zeroes_are zeroes request buffers some)
 
 -- ---- nothing lies outside
 
@@ -153,32 +170,42 @@ all_on_disk capacity (segment ∷ segments) fit =
     All-cons (OnDisk capacity) (disk_run segment) (map disk_run segments) (on_disk capacity segment parts.0)
     (all_on_disk capacity segments parts.1)
 
-inside_by : (capacity : ℕ) (m : Memory) (buffers : List Buffer) (request : Request) (stable : Bool) (room : ℕ)
-    → Good m buffers
-    → IsServable capacity request (payload_of (readable_of m buffers)) room → HasFew request
+pub zeroes_on_disk : (capacity : ℕ) (request : Request) (payload : List ℕ) (room : ℕ)
+    → IsServable capacity request payload room → has_segments request ≡ true
+    → All (OnDisk capacity) (zeroes_in payload)
+zeroes_on_disk capacity (Rejected status) payload room s some = cc
+zeroes_on_disk capacity (Read sector count) payload room s some = cc
+zeroes_on_disk capacity (Write sector count) payload room s some = cc
+zeroes_on_disk capacity Flush payload room s some = cc
+zeroes_on_disk capacity GetId payload room s some = cc
+zeroes_on_disk capacity (WriteZeroes segments) payload room s some =
+    All-filter has_bytes (OnDisk capacity) (map disk_run (segments_in payload))
+    (all_on_disk capacity (segments_in payload) s.1)
+
+inside_by : (capacity : ℕ) (m : Memory) (buffers : List Buffer) (request : Request) (readable : List ℕ) (stable : Bool)
+    (room : ℕ) → Good m buffers → IsServable capacity request (payload_of readable) room → HasFew request
     → asks_image request ≡ true
-    → LiesInside capacity m (operation_of stable request) (runs_for request m buffers)
-inside_by capacity m buffers (Rejected status) stable room good s few asks = cc
-inside_by capacity m buffers (Read sector count) stable room good s few asks = record {
+    → LiesInside capacity m (operation_of stable request) (runs_by request readable buffers)
+inside_by capacity m buffers (Rejected status) readable stable room good s few asks = cc
+inside_by capacity m buffers (Read sector count) readable stable room good s few asks = record {
   disk = omega (arith, s.0);
   lie = runs_inside m (segments_of true buffers) 0 (512 * count) (All-segments_of m true buffers good.inside);
   few = omega (arith, runs_few true buffers 0 (512 * count), good.few);
 }
-inside_by capacity m buffers (Write sector count) stable room good s few asks = record {
+inside_by capacity m buffers (Write sector count) readable stable room good s few asks = record {
   disk = omega (arith, s.0);
   lie = runs_inside m (segments_of false buffers) 16 (16 + 512 * count)
       (All-segments_of m false buffers good.inside);
   few = omega (arith, runs_few false buffers 16 (16 + 512 * count), good.few);
 }
-inside_by capacity m buffers Flush stable room good s few asks =
+inside_by capacity m buffers Flush readable stable room good s few asks =
     record { disk = omega arith; lie = refl; few = omega arith }
-inside_by capacity m buffers GetId stable room good s few asks = cc
-inside_by capacity m buffers (WriteZeroes segments) stable room good s few asks =
-    let payload = payload_of (readable_of m buffers) in
+inside_by capacity m buffers GetId readable stable room good s few asks = cc
+inside_by capacity m buffers (WriteZeroes segments) readable stable room good s few asks =
+    let payload = payload_of readable in
     record {
       disk = omega arith;
-      lie = All-filter has_bytes (OnDisk capacity) (map disk_run (segments_in payload))
-          (all_on_disk capacity (segments_in payload) s.1);
+      lie = zeroes_on_disk capacity (WriteZeroes segments) payload room s refl;
       few = omega (
         arith,
         few_of (segments_in payload),
@@ -189,11 +216,13 @@ inside_by capacity m buffers (WriteZeroes segments) stable room good s few asks 
       );
     }
 
--- what is told of a chain that asks
-pub told_inside : (device : BlockDevice) (m : Memory) (buffers : List Buffer) (request : Request)
-    (stable : Bool) (operation : Operation) (runs : List Segment) → Good m buffers
-    → IsAsked device m buffers request → operation ≡ operation_of stable request
-    → runs ≡ runs_for request m buffers → LiesInside device.extent.count m operation runs
-told_inside device m buffers request stable operation runs good a told are =
-    rw (told, are) (inside_by device.extent.count m buffers request stable a.room good a.servable
-    (few_segments device (readable_of m buffers) a.room request a.is) a.asks)
+-- what is told of a chain that asks, which was judged by these readable bytes
+pub told_inside : (device : BlockDevice) (m : Memory) (buffers : List Buffer) (request : Request) (readable : List ℕ)
+    (stable : Bool) (room : ℕ) (operation : Operation) (runs : List Segment) → Good m buffers
+    → request ≡ request_of device readable room
+    → IsServable device.extent.count request (payload_of readable) room → asks_image request ≡ true
+    → operation ≡ operation_of stable request → runs ≡ runs_by request readable buffers
+    → LiesInside device.extent.count m operation runs
+told_inside device m buffers request readable stable room operation runs good is servable asks told are =
+    rw (told, are) (inside_by device.extent.count m buffers request readable stable room good servable
+    (few_segments device readable room request is) asks)

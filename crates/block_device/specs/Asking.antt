@@ -24,7 +24,7 @@ use Rattle.block_device.specs.declared.operation.Verdict.TheVariants as verdict
 use Rattle.block_device.specs.Device.{device_by}
 use Rattle.block_device.specs.Outcome.{Outcome, Ends}
 use Rattle.block_device.specs.Progress.{IsServable}
-use Rattle.block_device.specs.Request.{request_of, payload_of, code_of, write_zeroes_request_of}
+use Rattle.block_device.specs.Request.{request_of, payload_of, code_of, sector_in, type_of, write_zeroes_request_of}
 
 -- whether a request asks the image for something
 abbrev pub asks_image : Request → Bool
@@ -48,6 +48,12 @@ unasked_device device = device_by (EndsUnasked device.identity) device
 abbrev pub has_segments : Request → Bool
 has_segments (WriteZeroes segments) = true
 has_segments request = false
+
+-- so many readable bytes begin with a header of these fields
+pub record HasHeader (kind sector len : ℕ) (readable : List ℕ) : Type 0 where
+  pub kind_is : kind ≡ type_of readable
+  pub sector_is : sector ≡ sector_in readable
+  pub long : length readable ≡ len
 
 -- A chain with these readable bytes, where `room` writable bytes come before the status, asks for this, which
 -- has no segments.

@@ -5,8 +5,7 @@ use Rattle.std.specs.List.{filter}
 use Rattle.guest_memory.specs.Memory.{Memory, Inside}
 use Rattle.chain.specs.declared.segment.Buffer.{Buffer}
 use Rattle.chain.specs.declared.segment.Segment.{Segment}
-use Rattle.chain.specs.Buffers.{Good}
-use Rattle.chain.specs.Bytes.{readable_of, segments_of}
+use Rattle.chain.specs.Bytes.{len_of, readable_of, segments_of}
 use Rattle.chain.specs.Runs.{has_bytes, runs_of}
 use Rattle.block_device.specs.declared.device.BlockDevice.{BlockDevice}
 use Rattle.block_device.specs.declared.operation.Operation.{Operation}
@@ -15,7 +14,7 @@ use Rattle.block_device.specs.declared.operation.OperationKind.TheVariants as ki
 use Rattle.block_device.specs.declared.request.Request.{Request}
 use Rattle.block_device.specs.declared.request.Request.TheVariants.{Read, Write, WriteZeroes}
 use Rattle.block_device.specs.declared.segments.WriteZeroesSegment.{WriteZeroesSegment}
-use Rattle.block_device.specs.Asking.{IsAsked, has_segments}
+use Rattle.block_device.specs.Asking.{IsAsked, asks_image, has_segments}
 use Rattle.block_device.specs.Extent.{sector_len}
 use Rattle.block_device.specs.Request.{payload_of}
 use Rattle.block_device.specs.Zeroes.{segments_in}
@@ -44,24 +43,35 @@ abbrev pub zeroes_in : List ℕ → List Segment
 zeroes_in payload = disk_runs (segments_in payload)
 
 -- Where the bytes of an operation lie: of IN all that come before the status, of OUT all behind the header
--- (5.2.6).
+-- (5.2.6), of a WRITE_ZEROES these.
+abbrev pub runs_with : List Segment → Request → List Buffer → List Segment
+runs_with zeroes (Read sector count) buffers = runs_of 0 (sector_len * count) (segments_of true buffers)
+runs_with zeroes (Write sector count) buffers = runs_of 16 (16 + sector_len * count) (segments_of false buffers)
+runs_with zeroes (WriteZeroes segments) buffers = zeroes
+runs_with zeroes request buffers = []
+
+-- of a WRITE_ZEROES what the segments in these readable bytes name
+abbrev pub runs_by : Request → List ℕ → List Buffer → List Segment
+runs_by request readable buffers = runs_with (zeroes_in (payload_of readable)) request buffers
+
+-- in those of a memory
 abbrev pub runs_for : Request → Memory → List Buffer → List Segment
-runs_for (Read sector count) m buffers = runs_of 0 (sector_len * count) (segments_of true buffers)
-runs_for (Write sector count) m buffers = runs_of 16 (16 + sector_len * count) (segments_of false buffers)
-runs_for (WriteZeroes segments) m buffers = zeroes_in (payload_of (readable_of m buffers))
-runs_for request m buffers = []
+runs_for request m buffers = runs_by request (readable_of m buffers) buffers
+
+-- The request asks for a disk of so many sectors, where all of its sectors are, and its bytes have places in the chain
+-- of these buffers.
+abbrev pub HasPlaces : ℕ → List Buffer → Request → Type 0
+HasPlaces capacity buffers (Read sector count) =
+    (sector + count ≤ capacity) × (sector_len * count ≤ len_of true buffers)
+HasPlaces capacity buffers (Write sector count) =
+    (sector + count ≤ capacity) × (16 + sector_len * count ≤ len_of false buffers)
+HasPlaces capacity buffers request = asks_image request ≡ true
 
 -- The chain asks for the disk, and of a WRITE_ZEROES these are the runs.
 pub record IsToldToHost (device : BlockDevice) (m : Memory) (buffers : List Buffer) (request : Request)
     (runs : List Segment) : Type 0 where
   pub asked : IsAsked device m buffers request
   pub zeroes : has_segments request ≡ true → runs ≡ runs_for request m buffers
-
--- The chain asked for the disk, with memory as it was then.
-pub record WasAsked (device : BlockDevice) (buffers : List Buffer) (request : Request) : Type 0 where
-  pub memory : Memory
-  pub good : Good memory buffers
-  pub asked : IsAsked device memory buffers request
 
 -- every byte of the run is one of a disk of so many sectors
 abbrev pub OnDisk : ℕ → Segment → Type 0

@@ -12,11 +12,11 @@ use guest_memory::GuestMemory;
 use std::alloc::Allocator;
 
 /// The bytes of a request's header: type, reserved, sector.
-pub(crate) const HEADER_LEN: u64 = 16;
+pub const HEADER_LEN: u64 = 16;
 
 /// The fields of a request's header.
 #[derive(Clone, Copy)]
-pub(crate) struct Header {
+pub struct Header {
     pub kind: u32,
     pub sector: u64,
 }
@@ -51,7 +51,7 @@ impl Header {
 
     /// Those of a header with these bytes.
     #[inline(always)]
-    fn of(bytes: &[u8; HEADER_LEN as usize]) -> Header
+    pub fn of(bytes: &[u8; HEADER_LEN as usize]) -> Header
         ensures kind { result.kind ≡ little_number 4 bytes.now }
         ensures sector { result.sector ≡ little_number 8 (drop 8 bytes.now) }
     {

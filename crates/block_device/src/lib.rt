@@ -27,6 +27,7 @@ mod zeroes;
 pub use device::{BlockDevice, REQUESTQ};
 pub use extent::Extent;
 pub use flights::{Flights, MOST_IN_FLIGHT};
+pub use header::{HEADER_LEN, Header};
 pub use hosting::{Flight, Hosted};
 pub use laws::{
     a_cut_request_touches_its_own_sectors, a_flight_outlasts, a_hosted_flush_lasts,
@@ -36,5 +37,7 @@ pub use laws::{
     what_lands_is_gone, what_stays_is_ahead,
 };
 pub use operation::{HostEvent, Operation, OperationKind, Verdict};
-pub use request::{Request, RequestStatus};
+pub use request::{Headed, Request, RequestStatus};
+pub use segments::{MOST_SEGMENT_BYTES, Segments, WriteZeroesSegment, are_segments};
 pub use serve::Piece;
+pub use transfer::Done;

@@ -1,9 +1,8 @@
 //! What a host that serves a disk itself is asked to do with it, and what it says of that.
 
 ghost use Rattle.std.specs.Prelude.{◌≡◌, ◌*◌, ◌^◌, ◌<◌};
-ghost use Rattle.guest_memory.specs.Memory.{Memory};
 ghost use Rattle.block_device.specs.Extent.{sector_len};
-ghost use Rattle.block_device.specs.Operation.{IsToldToHost, WasAsked, operation_of, runs_for};
+ghost use Rattle.block_device.specs.Operation.{HasPlaces, operation_of, runs_with};
 
 use crate::device::BlockDevice;
 use crate::header::HEADER_LEN;
@@ -71,18 +70,11 @@ pub enum HostEvent {
 impl BlockDevice {
     /// What the host is told of a request: the operation, and in `runs` where its bytes lie. Those of a WRITE_ZEROES
     /// stand there already. `stable` is whether its driver can't flush.
-    pub(crate) fn tell(
-        &self,
-        chain: &Chain,
-        request: Request,
-        stable: bool,
-        runs: &mut Runs,
-    ) -> Operation
+    pub fn tell(&self, chain: &Chain, request: Request, stable: bool, runs: &mut Runs) -> Operation
         requires disk { sector_len * self.now.extent.count < 2 ^ 64 }
-        requires asked { WasAsked self.now chain.now request }
+        requires places { HasPlaces self.now.extent.count chain.now request }
         ensures operation { result ≡ operation_of stable request }
-        ensures runs { (m : Memory) → IsToldToHost self.now m chain.now request runs.old →
-            runs.new ≡ runs_for request m chain.now }
+        ensures runs { runs.new ≡ runs_with runs.old request chain.now }
     {
         match request {
             Request::Read { sector, count } => {

@@ -1,10 +1,10 @@
 //! One request as its driver wrote it (5.2.6): its header's type is looked up, and everything that can be refused
 //! without the image is refused here.
 
-ghost use Rattle.std.specs.Prelude.{◌≡◌, ℕ, List, false, length, All};
+ghost use Rattle.std.specs.Prelude.{◌≡◌, ◌≤◌, ℕ, List, false, length, All};
 ghost use Rattle.chain.specs.Buffers.{Within};
 ghost use Rattle.chain.specs.Bytes.{readable_of};
-ghost use Rattle.block_device.specs.Asking.{IsHeaded, has_segments};
+ghost use Rattle.block_device.specs.Asking.{HasHeader, IsHeaded, has_segments};
 ghost use Rattle.block_device.specs.Progress.{IsServable};
 ghost use Rattle.block_device.specs.Request.{are_sectors, code_of, in_request_of, is_io_error, out_request_of, payload_of, request_of, write_zeroes_request_of};
 
@@ -48,7 +48,7 @@ pub enum RequestStatus {
 
 impl RequestStatus {
     /// The byte that the driver reads.
-    pub(crate) fn code(self) -> u8
+    pub fn code(self) -> u8
         ensures { result ≡ code_of self }
     {
         match self {
@@ -84,7 +84,7 @@ pub enum Request {
 
 /// A request as far as a header and a chain's lengths tell it.
 #[derive(Clone, Copy)]
-pub(crate) enum Headed {
+pub enum Headed {
     /// All of it is known. It has no segments.
     Known(Request),
     /// A WRITE_ZEROES with so many bytes of segments, which aren't read yet.
@@ -161,10 +161,20 @@ impl BlockDevice {
         if readable < HEADER_LEN {
             return Headed::Known(Request::Rejected(RequestStatus::IoError));
         }
-        let Header { kind, sector } = Header::read(mem, chain);
-        match kind {
-            TYPE_IN => Headed::Known(self.in_request(sector, room)),
-            TYPE_OUT => Headed::Known(self.out_request(sector, readable - HEADER_LEN)),
+        let header = Header::read(mem, chain);
+        self.headed_by(header, readable, room)
+    }
+
+    /// The same of a chain with this header and so many readable bytes.
+    #[inline(always)]
+    pub fn headed_by(&self, header: Header, readable: u64, room: u64) -> Headed
+        requires { 16 ≤ readable }
+        ensures { (bytes : List ℕ) → HasHeader header.kind header.sector readable bytes →
+            IsHeaded self.now bytes room result }
+    {
+        match header.kind {
+            TYPE_IN => Headed::Known(self.in_request(header.sector, room)),
+            TYPE_OUT => Headed::Known(self.out_request(header.sector, readable - HEADER_LEN)),
             TYPE_FLUSH => Headed::Known(Request::Flush),
             TYPE_GET_ID if room >= ID_LEN => Headed::Known(Request::GetId),
             TYPE_GET_ID => Headed::Known(Request::Rejected(RequestStatus::IoError)),

@@ -1,5 +1,5 @@
-//! The segments of a WRITE_ZEROES (5.2.6): each is read once out of guest memory, into a room of the device's own, and
-//! judged there. What is zeroed, or told to a host, is made of these alone.
+//! The segments of a WRITE_ZEROES (5.2.6): their bytes are read once out of guest memory, into a room of the device's own,
+//! and judged there. What is zeroed, or told to a host, is made of these alone.
 
 ghost use Rattle.std.specs.Prelude.{◌≡◌, ◌+◌, ◌*◌, ◌^◌, ◌<◌, ◌≤◌, ℕ, List, length, true, All, IfErr, IfOk};
 ghost use Rattle.std.specs.List.{list_all};
@@ -30,31 +30,32 @@ pub(crate) const MAX_WRITE_ZEROES_SEG: u32 = 32;
 const MOST_SEGMENTS: usize = MAX_WRITE_ZEROES_SEG as usize;
 
 /// The bytes of a segment.
-const SEGMENT_LEN: u64 = 16;
+const SEGMENT_LEN: usize = 16;
+
+/// The bytes of as many segments as a request may have.
+pub const MOST_SEGMENT_BYTES: usize = SEGMENT_LEN * MOST_SEGMENTS;
 
 /// The sectors may be unmapped as long as they read as zeros. Here that changes nothing.
 const FLAG_UNMAP: u32 = 1;
 
 /// A run of sectors that a request names, counted from the extent's start.
 #[derive(Clone, Copy, Default)]
-pub(crate) struct WriteZeroesSegment {
+pub struct WriteZeroesSegment {
     pub sector: u64,
     pub count: u32,
     pub flags: u32,
 }
 
 impl WriteZeroesSegment {
-    /// The segment of that index behind the header of a chain.
-    fn read<A: Allocator>(mem: &GuestMemory<A>, chain: &Chain, index: u64) -> WriteZeroesSegment
-        requires inside { All (Within mem.now) chain.now }
-        requires there { segment_len * (index + 1) ≤ length (payload_of (readable_of mem.now chain.now)) }
-        requires fits { segment_len * (index + 1) < 2 ^ 64 }
-        ensures { result ≡ segment_at (payload_of (readable_of mem.now chain.now)) index }
+    /// The segment of that index.
+    fn of(payload: &[u8], index: usize) -> WriteZeroesSegment
+        requires there { segment_len * (index + 1) ≤ length payload.now }
+        ensures { result ≡ segment_at payload.now index }
     {
-        let mut bytes = [0; SEGMENT_LEN as usize];
-        chain.read_at(mem, HEADER_LEN + SEGMENT_LEN * index, &mut bytes);
+        let from = SEGMENT_LEN * index;
+        let bytes = &payload[from..from + SEGMENT_LEN];
         WriteZeroesSegment {
-            sector: LittleEndian::read_u64(&bytes),
+            sector: LittleEndian::read_u64(bytes),
             count: LittleEndian::read_u32(&bytes[8..]),
             flags: LittleEndian::read_u32(&bytes[12..]),
         }
@@ -90,15 +91,17 @@ impl WriteZeroesSegment {
 }
 
 /// Whether `len` bytes are whole segments, at least one and not too many.
-fn are_segments(len: u64) -> bool
+pub fn are_segments(len: u64) -> bool
     ensures { result ≡ are_segments len }
 {
-    len % SEGMENT_LEN == 0 && 0 < len && len / SEGMENT_LEN <= u64::from(MAX_WRITE_ZEROES_SEG)
+    len % SEGMENT_LEN as u64 == 0
+        && 0 < len
+        && len / SEGMENT_LEN as u64 <= u64::from(MAX_WRITE_ZEROES_SEG)
 }
 
 /// The segments of a request, as they were read. A guest can't write them.
 #[derive(Drop)]
-pub(crate) struct Segments {
+pub struct Segments {
     list: ArrayVec<WriteZeroesSegment, MOST_SEGMENTS>,
 }
 
@@ -112,22 +115,38 @@ impl Model for Segments {
 }
 
 impl Segments {
-    /// So many behind the header of a chain, each read once.
-    fn read<A: Allocator>(mem: &GuestMemory<A>, chain: &Chain, count: u64) -> Segments
+    /// Those in the `len` bytes behind the header of a chain, which are read into `bytes`.
+    fn read<A: Allocator>(
+        mem: &GuestMemory<A>,
+        chain: &Chain,
+        len: u64,
+        bytes: &mut [u8; MOST_SEGMENT_BYTES],
+    ) -> Segments
         requires inside { All (Within mem.now) chain.now }
-        requires payload { length (payload_of (readable_of mem.now chain.now)) ≡ segment_len * count }
-        requires few { count ≤ max_write_zeroes_seg }
+        requires payload { length (payload_of (readable_of mem.now chain.now)) ≡ len }
+        requires some { 0 < len }
+        requires few { len ≤ segment_len * max_write_zeroes_seg }
         ensures { result ≡ segments_in (payload_of (readable_of mem.now chain.now)) }
     {
+        let payload = &mut bytes[..len as usize];
+        chain.read_at(mem, HEADER_LEN, payload);
+        Segments::of(payload)
+    }
+
+    /// Those in these bytes.
+    pub fn of(payload: &[u8]) -> Segments
+        requires few { length payload.now ≤ segment_len * max_write_zeroes_seg }
+        ensures { result ≡ segments_in payload.now }
+    {
         let mut list = ArrayVec::new();
-        for index in 0..count {
-            list.push(WriteZeroesSegment::read(mem, chain, index));
+        for index in 0..payload.len() / SEGMENT_LEN {
+            list.push(WriteZeroesSegment::of(payload, index));
         }
         Segments { list }
     }
 
     /// The segments, in order.
-    pub(crate) fn as_slice(&self) -> &[WriteZeroesSegment]
+    pub fn as_slice(&self) -> &[WriteZeroesSegment]
         ensures { result.now ≡ self.now }
     {
         self.list.as_slice()
@@ -152,7 +171,7 @@ impl Segments {
     }
 
     /// Puts the bytes of a disk of `capacity` that they name in the place of what `runs` has.
-    pub(crate) fn tell(&self, capacity: u64, runs: &mut Runs)
+    pub fn tell(&self, capacity: u64, runs: &mut Runs)
         requires disk { sector_len * capacity < 2 ^ 64 }
         requires sectors { list_all (has_sectors_within capacity) self.now ≡ true }
         requires few { length self.now ≤ max_write_zeroes_seg }
@@ -187,11 +206,12 @@ impl BlockDevice {
         if self.read_only || !are_segments(len) {
             return Err(RequestStatus::IoError);
         }
-        self.judged(Segments::read(mem, chain, len / SEGMENT_LEN))
+        let mut bytes = [0; MOST_SEGMENT_BYTES];
+        self.judged(Segments::read(mem, chain, len, &mut bytes))
     }
 
     /// The same segments, or the status by which their request is rejected. All flags are judged before all sectors.
-    fn judged(&self, segments: Segments) -> Result<Segments, RequestStatus>
+    pub fn judged(&self, segments: Segments) -> Result<Segments, RequestStatus>
         ensures ok { IfOk result (λ judged. (payload : List ℕ) → AreRead self.now payload segments →
             AreJudged self.now payload judged) }
         ensures err { IfErr result (λ status. (payload : List ℕ) → AreRead self.now payload segments →

@@ -28,7 +28,7 @@ use std::alloc::Allocator;
 
 /// A request that was served but for its status.
 #[derive(Clone, Copy)]
-pub(crate) struct Done {
+pub struct Done {
     /// How many of the first writable bytes were written.
     pub len: u64,
     pub status: RequestStatus,
@@ -60,7 +60,7 @@ impl Done {
     }
 
     /// What an operation comes to that came out so, where `room` bytes come before the status.
-    pub(crate) fn by(kind: OperationKind, verdict: Verdict, room: u64) -> Done
+    pub fn by(kind: OperationKind, verdict: Verdict, room: u64) -> Done
         ensures len { result.len ≡ found_by kind verdict room }
         ensures status { result.status ≡ status_by verdict }
     {
@@ -76,7 +76,7 @@ impl Done {
 
     /// What the used entry of its chain says, which has so many writable bytes, the status among them.
     #[inline(always)]
-    pub(crate) fn used(self, writable: u64) -> Used
+    pub fn used(self, writable: u64) -> Used
         requires room { self.len < writable }
         requires fits { writable < 2 ^ 32 }
         ensures len { result.len ≡ used_by self.len writable }

@@ -1,5 +1,5 @@
 -- A request that was judged by one copy of its readable list.
-use Rattle.std.proofs.Common.{◌≡◌, ◌∙◌, ◌⊎◌, inl, inr, ℕ, zero, suc, ◌+◌, ◌-◌, ◌≤◌, ◌<◌, false, Bool, List, [], ◌∷◌, ◌++◌, length, take, drop, refl, sym, ap, subst, arith, nat_lt, length-drop}
+use Rattle.std.proofs.Common.{◌≡◌, ◌∙◌, ◌⊎◌, inl, inr, ℕ, zero, suc, ◌+◌, ◌≤◌, ◌<◌, false, Bool, List, [], ◌∷◌, ◌++◌, length, take, drop, refl, sym, ap, subst, arith, nat_lt, length-drop}
 use Rattle.std.specs.Prelude.{All, true}
 use Rattle.std.specs.List.{flat_map}
 use Rattle.std.proofs.lemmas.Bool.Decides.{nat_tests}
@@ -18,18 +18,17 @@ use Rattle.block_device.specs.declared.device.BlockDevice.{BlockDevice}
 use Rattle.block_device.specs.declared.request.Request.{Request}
 use Rattle.block_device.specs.declared.request.Request.TheVariants.{Rejected}
 use Rattle.block_device.specs.declared.request.RequestStatus.TheVariants.{IoError}
-use Rattle.block_device.specs.Asking.{IsKnown, IsZeroes, has_segments}
+use Rattle.block_device.specs.declared.segments.WriteZeroesSegment.{WriteZeroesSegment}
+use Rattle.block_device.specs.Asking.{HasHeader, IsKnown, IsZeroes}
 use Rattle.block_device.specs.Operation.{zeroes_in}
-use Rattle.block_device.specs.Progress.{IsServable}
-use Rattle.block_device.specs.Request.{AreRead, out_request_of, payload_of, write_zeroes_request_of}
+use Rattle.block_device.specs.Request.{AreRead, payload_of, write_zeroes_request_of}
 use Rattle.block_device.specs.Zeroes.{are_segments}
-use Rattle.block_device.proofs.Judging.{payload_size, request_by_type}
 use Rattle.racing_service.specs.Device.{AreBytesSeen}
 use Rattle.racing_service.proofs.Seeing.{bytes_count, bytes_later, bytes_sooner, part_seen, seen_append}
 use Rattle.racing_service.proofs.Standing.{good_same}
 use Rattle.racing_disk.specs.Copying.{HasPayload, IsCopy, IsHeader}
-use Rattle.racing_disk.specs.Segments.{HasSegments, SegmentOfZeroes}
-use Rattle.racing_disk.specs.Judging.{BeginsWith, IsJudged, IsZeroing}
+use Rattle.racing_disk.specs.Segments.{HasSegments}
+use Rattle.racing_disk.specs.Judging.{IsJudged, IsZeroing}
 
 -- ---- the readable list as it stands at one access
 
@@ -82,7 +81,7 @@ module _ (races : Bool) (a b c : Sightings) (buffers : List Buffer) (len kind se
       (bytes_later races a b c (take 16 addrs) h.bytes later h.copy)
       (bytes_sooner races a b c (drop 16 addrs) payload first behind))
 
-  pub begins : BeginsWith kind sector len readable
+  pub begins : HasHeader kind sector len readable
   begins =
       let front : h.bytes ≡ take 16 readable = sym (take_at h.bytes payload 16 header_long) in
       record {
@@ -98,7 +97,7 @@ module _ (races : Bool) (a b c : Sightings) (buffers : List Buffer) (len kind se
 pub known_judged : (device : BlockDevice) (races : Bool) (a b : Sightings) (buffers : List Buffer) (room len kind sector : ℕ)
     (request : Request) (runs : List Segment) → Good (memory a) buffers → Loads races a b → len_of false buffers ≡ len
     → 16 ≤ len → IsHeader a b buffers kind sector
-    → ((bytes : List ℕ) → BeginsWith kind sector len bytes → IsKnown device bytes room request)
+    → ((bytes : List ℕ) → HasHeader kind sector len bytes → IsKnown device bytes room request)
     → IsJudged device a b buffers room request runs
 known_judged device races a b buffers room len kind sector request runs good loads all enough h known =
     let good_then : Good (memory b) buffers = good_same (memory a) (memory b) buffers (loads_range races a b loads) good in
@@ -122,13 +121,13 @@ known_judged device races a b buffers room len kind sector request runs good loa
     none = loads_none races b
 
 -- it is a WRITE_ZEROES
-pub zeroes_judged : (device : BlockDevice) (races : Bool) (a b c : Sightings) (buffers : List Buffer) (room len kind sector : ℕ)
+pub zeroes_judged : (device : BlockDevice) (races : Bool) (a b c : Sightings) (buffers : List Buffer) (room len kind sector behind : ℕ)
     (request : Request) (runs : List Segment) → Loads races a b → Loads races b c → len_of false buffers ≡ len
     → 16 ≤ len → IsHeader a b buffers kind sector
-    → ((bytes : List ℕ) → BeginsWith kind sector len bytes → IsZeroes device bytes room (len - 16))
+    → ((bytes : List ℕ) → HasHeader kind sector len bytes → IsZeroes device bytes room behind)
     → HasPayload b c buffers (λ payload. IsZeroing device payload request runs)
     → IsJudged device a c buffers room request runs
-zeroes_judged device races a b c buffers room len kind sector request runs first later all enough h known p =
+zeroes_judged device races a b c buffers room len kind sector _ request runs first later all enough h known p =
     let readable = h.bytes ++ p.payload in
     let begun = begins races a b c buffers len kind sector first later all enough h p.payload p.copy in
     let behind : payload_of readable ≡ p.payload =
@@ -155,22 +154,6 @@ short_judged device a buffers room len runs good all few =
       readable = readable;
       copy = readable_seen a buffers good;
       judged = record { is = rw short refl; servable = tt; zeroes = λ some. cc };
-    }
-
--- ---- an OUT
-
-pub out_known : (device : BlockDevice) (bytes : List ℕ) (room kind sector len : ℕ) (request : Request) → 16 ≤ len
-    → BeginsWith kind sector len bytes → kind ≡ 1 → request ≡ out_request_of device sector (len - 16)
-    → has_segments request ≡ false
-    → ((payload : List ℕ) (room : ℕ) → length payload ≡ len - 16 → IsServable device.extent.count request payload room)
-    → IsKnown device bytes room request
-out_known device bytes room kind sector len request enough h one value plain servable =
-    let behind = payload_size bytes len h.long in
-    record {
-      is = request_by_type device bytes room 1 sector request (omega (arith, enough, h.long)) (sym one ∙ h.kind_is)
-          h.sector_is (value ∙ ap (out_request_of device sector) (sym behind));
-      servable = servable (payload_of bytes) room behind;
-      plain = plain;
     }
 
 -- ---- what is behind the header
@@ -220,7 +203,7 @@ no_segments device s buffers len good all which =
 -- ---- one whose segments were copied
 
 pub judged_payload : (old new : Sightings) (buffers : List Buffer) (device : BlockDevice) (len : ℕ)
-    (segments : List SegmentOfZeroes) (fit : Bool) (Is : List ℕ → Type 0) → device.read_only ≡ false → fit ≡ are_segments len
+    (segments : List WriteZeroesSegment) (fit : Bool) (Is : List ℕ → Type 0) → device.read_only ≡ false → fit ≡ are_segments len
     → fit ≡ true → HasPayload old new buffers (λ payload. HasSegments len payload segments)
     → ((payload : List ℕ) → AreRead device payload segments → Is payload) → HasPayload old new buffers Is
 judged_payload old new buffers device len segments fit Is writable tested passed h judged = record {

@@ -1,7 +1,6 @@
 pub mod Copying
 pub mod Judging
 pub mod Standing
-pub mod Inside
 pub mod Telling
 pub mod Answering
 pub mod Looking

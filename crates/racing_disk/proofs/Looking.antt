@@ -11,14 +11,14 @@ use Rattle.block_device.specs.declared.device.BlockDevice.{BlockDevice}
 use Rattle.block_device.specs.declared.operation.Operation.{Operation}
 use Rattle.block_device.specs.declared.request.Request.{Request}
 use Rattle.block_device.specs.Asking.{asks_image}
-use Rattle.block_device.specs.Operation.{operation_of}
+use Rattle.block_device.specs.Operation.{operation_of, runs_by}
 use Rattle.racing_service.specs.declared.stage.Stage.{Stage}
 use Rattle.racing_service.specs.Queue.{RacingKind}
 use Rattle.racing_service.specs.Service.{Standing, standing_at}
 use Rattle.racing_service.proofs.Seeing.{bytes_count}
 use Rattle.racing_disk.specs.Answering.{IsAnsweredIn}
 use Rattle.racing_disk.specs.Looking.{FindsOneThatAsks, FindsOneToAnswer, FindsRequest}
-use Rattle.racing_disk.specs.Telling.{HasStatus, IsLeft, WasLeft, runs_by}
+use Rattle.racing_disk.specs.Telling.{HasStatus, IsLeft, WasLeft}
 
 module _ {Ring : Type 0} (queues : RacingKind Ring) (device : BlockDevice) (races : Bool) (stage : Stage)
     (most : ℕ) (a : Standing Ring (Unit {0})) (s : Sightings) (ring : Ring) (left : Budget) (buffers : List Buffer) (entry : Entry)

@@ -10,22 +10,22 @@ use Rattle.chain.specs.Service.{Does}
 use Rattle.shared_memory.specs.Sightings.{Sightings, Loads, memory}
 use Rattle.block_device.specs.declared.device.BlockDevice.{BlockDevice}
 use Rattle.block_device.specs.declared.request.Request.{Request}
-use Rattle.block_device.specs.declared.request.Request.TheVariants.{Rejected, Read, Write, Flush, GetId, WriteZeroes}
-use Rattle.block_device.specs.Asking.{asks_image, has_segments, status_by}
+use Rattle.block_device.specs.Asking.{asks_image, status_by}
 use Rattle.block_device.specs.declared.hosting.Flight.{Flight}
 use Rattle.block_device.specs.declared.operation.Verdict.{Verdict}
 use Rattle.block_device.specs.Hosting.{hosted_device}
 use Rattle.block_device.specs.Hosting as hosting
-use Rattle.block_device.specs.Operation.{IsToldToHost, runs_for, zeroes_in}
+use Rattle.block_device.specs.Operation.{IsToldToHost, runs_by, runs_for, zeroes_in}
 use Rattle.block_device.specs.Progress.{IsServable}
 use Rattle.block_device.specs.Request.{code_of, payload_of, request_of}
+use Rattle.block_device.proofs.Telling.{zeroes_are}
 use Rattle.racing_service.specs.Device.{DoesRaced, RefusesRaced}
 use Rattle.racing_service.proofs.Standing.{does_still, read_still}
 use Rattle.racing_disk.specs.Copying.{IsCopy}
 use Rattle.racing_disk.specs.Answering.{IsAnswered}
 use Rattle.racing_disk.specs.Completing.{IsCompleted}
 use Rattle.racing_disk.specs.Judging.{IsJudged}
-use Rattle.racing_disk.specs.Telling.{IsLeft, runs_by}
+use Rattle.racing_disk.specs.Telling.{IsLeft}
 
 -- what was copied is what stands there
 pub copy_still : (old new : Sightings) (buffers : List Buffer) (readable : List ℕ) → All (Within (memory old)) buffers
@@ -40,15 +40,6 @@ pub request_still : (device : BlockDevice) (old new : Sightings) (buffers : List
 request_still device old new buffers room request runs good loads j =
     j.judged.is ∙ ap (λ (l : List ℕ). request_of device l room)
     (copy_still old new buffers j.readable good.inside loads j.copy)
-
-has_zeroes : (request : Request) (m : Memory) (buffers : List Buffer) → has_segments request ≡ true
-    → runs_for request m buffers ≡ zeroes_in (payload_of (readable_of m buffers))
-has_zeroes (Rejected status) m buffers some = cc
-has_zeroes (Read sector count) m buffers some = cc
-has_zeroes (Write sector count) m buffers some = cc
-has_zeroes Flush m buffers some = cc
-has_zeroes GetId m buffers some = cc
-has_zeroes (WriteZeroes segments) m buffers some = refl
 
 -- and what the host is told, too
 pub told_still : (device : BlockDevice) (old new : Sightings) (buffers : List Buffer) (room : ℕ) (request : Request)
@@ -67,7 +58,7 @@ told_still device old new buffers room request runs good loads j all asks =
         asks = asks;
       };
       zeroes = λ some. j.judged.zeroes some ∙ ap (λ (l : List ℕ). zeroes_in (payload_of l)) same
-          ∙ sym (has_zeroes request (memory old) buffers some);
+          ∙ sym (zeroes_are (zeroes_in (payload_of (readable_of (memory old) buffers))) request buffers some);
     }
 
 -- what a service left
@@ -81,12 +72,7 @@ left_still device old new buffers request kept good r asks =
 
 pub runs_still : (request : Request) (m : Memory) (buffers : List Buffer)
     → runs_by request (readable_of m buffers) buffers ≡ runs_for request m buffers
-runs_still (Rejected status) m buffers = refl
-runs_still (Read sector count) m buffers = refl
-runs_still (Write sector count) m buffers = refl
-runs_still Flush m buffers = refl
-runs_still GetId m buffers = refl
-runs_still (WriteZeroes segments) m buffers = refl
+runs_still request m buffers = refl
 
 -- ---- an answer, and a completion
 

@@ -1,5 +1,5 @@
 -- What a chain asks for, by one copy of its readable list (5.2.6).
-use Rattle.std.specs.Prelude.{◌≡◌, ℕ, true, List, length}
+use Rattle.std.specs.Prelude.{◌≡◌, ℕ, true, List}
 use Rattle.chain.specs.declared.segment.Buffer.{Buffer}
 use Rattle.chain.specs.declared.segment.Segment.{Segment}
 use Rattle.shared_memory.specs.Sightings.{Sightings}
@@ -8,7 +8,7 @@ use Rattle.block_device.specs.declared.request.Request.{Request}
 use Rattle.block_device.specs.Asking.{has_segments}
 use Rattle.block_device.specs.Operation.{zeroes_in}
 use Rattle.block_device.specs.Progress.{IsServable}
-use Rattle.block_device.specs.Request.{payload_of, request_of, sector_in, type_of, write_zeroes_request_of}
+use Rattle.block_device.specs.Request.{payload_of, request_of, write_zeroes_request_of}
 use Rattle.racing_disk.specs.Copying.{IsCopy}
 
 -- A chain with these readable bytes, where `room` writable bytes come before the status, asks for this. Where segments say
@@ -31,9 +31,3 @@ pub record IsZeroing (device : BlockDevice) (payload : List ℕ) (request : Requ
   pub is : request ≡ write_zeroes_request_of device payload
   pub servable : (room : ℕ) → IsServable device.extent.count request payload room
   pub zeroes : has_segments request ≡ true → runs ≡ zeroes_in payload
-
--- so many readable bytes begin with a header of these fields
-pub record BeginsWith (kind sector len : ℕ) (readable : List ℕ) : Type 0 where
-  pub kind_is : kind ≡ type_of readable
-  pub sector_is : sector ≡ sector_in readable
-  pub long : length readable ≡ len

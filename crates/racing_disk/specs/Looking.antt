@@ -9,12 +9,12 @@ use Rattle.block_device.specs.declared.operation.Operation.{Operation}
 use Rattle.block_device.specs.declared.request.Request.{Request}
 use Rattle.block_device.specs.Asking.{asks_image}
 use Rattle.block_device.specs.Hosting.{hosted_device}
-use Rattle.block_device.specs.Operation.{operation_of}
+use Rattle.block_device.specs.Operation.{operation_of, runs_by}
 use Rattle.racing_service.specs.declared.stage.Stage.{Stage}
 use Rattle.racing_service.specs.Queue.{RacingKind}
 use Rattle.racing_service.specs.Service.{IsRefusedService, Standing}
 use Rattle.racing_disk.specs.Answering.{IsAnsweredIn}
-use Rattle.racing_disk.specs.Telling.{HasStatus, IsLeft, runs_by}
+use Rattle.racing_disk.specs.Telling.{HasStatus, IsLeft}
 
 module _ {Ring : Type 0} (queues : RacingKind Ring) (device : BlockDevice) (races : Bool) (stage : Stage)
     (most : ℕ) where

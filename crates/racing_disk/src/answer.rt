@@ -9,19 +9,10 @@ ghost use Rattle.racing_disk.specs.Answering.{HasFound, IsAnsweredIn};
 ghost use Rattle.racing_disk.specs.Telling.{IsLeft, WasLeft};
 
 use crate::disk::RacingDisk;
-use crate::status::{code, used_len};
-use block_device::{Request, RequestStatus};
-use chain::{Chain, Runs, Used};
+use block_device::{Done, Request, RequestStatus};
+use chain::{Chain, Runs};
 use racing_service::{RacingQueue, store_in_chain};
 use shared_memory::Shared;
-
-/// What is stored of an answer before its status.
-#[derive(Clone, Copy)]
-struct Answer {
-    // How many of the first writable bytes are.
-    len: u32,
-    status: RequestStatus,
-}
 
 impl RacingDisk {
     /// Answers the chain that was taken last, whose request asks nothing of the disk, and gives it back. Answers its used
@@ -48,11 +39,11 @@ impl RacingDisk {
     {
         // What it ensures: there are fewer than 2^32 bytes.
         let _ = chain.buffers();
-        let found = self.store_found(mem, request, chain, room);
-        mem.store_u8(chain.last_writable(), code(found.status));
-        let len = used_len(found.len, chain.writable_len() as u32);
-        queue.give(mem, token, Used { len, wrote: true });
-        len
+        let done = self.store_found(mem, request, chain, room);
+        mem.store_u8(chain.last_writable(), done.status.code());
+        let used = done.used(chain.writable_len());
+        queue.give(mem, token, used);
+        used.len
     }
 
     /// Stores what a request finds that asks nothing of the disk.
@@ -62,7 +53,7 @@ impl RacingDisk {
         request: Request,
         chain: &Chain,
         room: &mut Runs,
-    ) -> Answer
+    ) -> Done
         requires good { Good (memory (M.sightings mem.old)) chain.now }
         requires left { WasLeft self.now.device chain.now request room.old }
         requires asks { asks_image request ≡ false }
@@ -74,12 +65,12 @@ impl RacingDisk {
         match request {
             Request::GetId => {
                 store_in_chain(mem, chain, 0, &self.device.identity, room);
-                Answer {
+                Done {
                     len: 20,
                     status: RequestStatus::Success,
                 }
             }
-            Request::Rejected(status) => Answer { len: 0, status },
+            Request::Rejected(status) => Done { len: 0, status },
             _ => unreachable!(),
         }
     }

@@ -6,9 +6,7 @@ ghost use Rattle.shared_memory.specs.Sightings.{memory};
 ghost use Rattle.racing_disk.specs.Completing.{IsGivenBack};
 
 use crate::operation::Flight;
-use crate::status::{code, used_len};
-use block_device::{OperationKind, RequestStatus, Verdict};
-use chain::Used;
+use block_device::{Done, Verdict};
 use racing_service::RacingQueue;
 use shared_memory::Shared;
 
@@ -29,16 +27,10 @@ pub fn complete<Q: RacingQueue, M: Shared>(
     ensures races { M.races mem.new ≡ M.races mem.old }
     ensures lies { Q.LiesIn (memory (M.sightings mem.new)) queue.new }
 {
-    let status = match verdict {
-        Verdict::Done => RequestStatus::Success,
-        Verdict::Failed => RequestStatus::IoError,
-    };
-    mem.store_u8(flight.status, code(status));
-    let found = match (verdict, flight.operation.kind) {
-        (Verdict::Done, OperationKind::In) => flight.writable - 1,
-        _ => 0,
-    };
-    let len = used_len(found, flight.writable);
-    queue.land(mem, flight.token, Used { len, wrote: true });
-    len
+    let writable = u64::from(flight.writable);
+    let done = Done::by(flight.operation.kind, verdict, writable - 1);
+    mem.store_u8(flight.status, done.status.code());
+    let used = done.used(writable);
+    queue.land(mem, flight.token, used);
+    used.len
 }

@@ -10,7 +10,7 @@ ghost use Rattle.shared_memory.specs.Sightings.{Sightings, Loads, memory};
 ghost use Rattle.block_device.specs.declared.device.BlockDevice.{BlockDevice};
 ghost use Rattle.block_device.specs.declared.request.Request.{Request};
 ghost use Rattle.block_device.specs.Asking.{asks_image, has_segments};
-ghost use Rattle.block_device.specs.Operation.{IsToldToHost, OnDisk, runs_for};
+ghost use Rattle.block_device.specs.Operation.{IsToldToHost, OnDisk, runs_by, runs_for};
 ghost use Rattle.block_device.specs.Request.{request_of};
 ghost use Rattle.chain.specs.Service.{Does};
 ghost use Rattle.block_device.specs.declared.hosting.Flight.{Flight};
@@ -22,7 +22,7 @@ ghost use Rattle.racing_disk.specs.Answering.{IsAnswered};
 ghost use Rattle.racing_disk.specs.Completing.{IsCompleted};
 ghost use Rattle.racing_disk.specs.Copying.{IsCopy};
 ghost use Rattle.racing_disk.specs.Judging.{IsJudged};
-ghost use Rattle.racing_disk.specs.Telling.{IsLeft, runs_by};
+ghost use Rattle.racing_disk.specs.Telling.{IsLeft};
 
 /// A guest that stands still asks for what `request_of` says of its memory, and what asks for the disk is told to the host
 /// as `IsToldToHost` says.

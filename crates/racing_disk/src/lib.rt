@@ -1,8 +1,8 @@
 //! The request queue of a block device whose disk the host serves (5.2), over a memory that its guest may write meanwhile.
 //!
-//! `copy` copies places of a chain's readable list, `header` and `segments` are made of such copies, and `request` judges by
-//! them. `serving` is the device to a service of its queue, and `operation` what the host is told of a chain that stays in
-//! flight. That comes of the copy that was judged.
+//! `copy` copies places of a chain's readable list, `header` and `segments` are made of such copies, and `request` has them
+//! judged by block_device. `serving` is the device to a service of its queue, and `operation` leaves a chain in flight, whose
+//! host is told of the copy that was judged.
 #![tactic(auto)]
 
 mod answer;
@@ -14,10 +14,8 @@ mod laws;
 mod look;
 mod operation;
 mod request;
-mod segment;
 mod segments;
 mod serving;
-mod status;
 
 pub use completion::complete;
 pub use disk::RacingDisk;

@@ -5,13 +5,11 @@ ghost use Rattle.guest_memory.specs.Memory.{Inside, Memory};
 ghost use Rattle.chain.specs.Buffers.{Good};
 ghost use Rattle.block_device.specs.Asking.{asks_image};
 ghost use Rattle.block_device.specs.Extent.{sector_len};
-ghost use Rattle.block_device.specs.Operation.{LiesInside, operation_of};
-ghost use Rattle.racing_disk.specs.Telling.{HasStatus, IsLeft, WasLeft, runs_by};
+ghost use Rattle.block_device.specs.Operation.{LiesInside, operation_of, runs_by};
+ghost use Rattle.racing_disk.specs.Telling.{HasStatus, IsLeft, WasLeft};
 
 use crate::disk::RacingDisk;
-use crate::header::HEADER_LEN;
-use crate::request::SECTOR_LEN;
-use block_device::{Operation, OperationKind, Request};
+use block_device::{Operation, Request};
 use chain::{Chain, Runs};
 use racing_service::RacingQueue;
 
@@ -27,14 +25,6 @@ pub struct Flight<T> {
     /// How many bytes of the chain the device may write; the last one is the status.
     pub writable: u32,
 }
-
-/// Brings to the medium what was written before.
-const FLUSH: Operation = Operation {
-    kind: OperationKind::Flush,
-    start: 0,
-    len: 0,
-    stable: false,
-};
 
 impl RacingDisk {
     /// Leaves the chain that was taken last in flight, whose request asks for the disk. `runs` has then where the bytes of its
@@ -67,57 +57,13 @@ impl RacingDisk {
     {
         // What it ensures: there are fewer than 2^32 bytes.
         let _ = chain.buffers();
-        let operation = self.tell(chain, request, stable, runs);
+        let operation = self.device.tell(chain, request, stable, runs);
         queue.launch(&token);
         Flight {
             token,
             operation,
             status: chain.last_writable(),
             writable: chain.writable_len() as u32,
-        }
-    }
-
-    /// The operation of a request that asks for the disk, and in `runs` where its bytes lie. Those of a WRITE_ZEROES stand there
-    /// already.
-    fn tell(&self, chain: &Chain, request: Request, stable: bool, runs: &mut Runs) -> Operation
-        requires disk { sector_len * self.now.device.extent.count < 2 ^ 64 }
-        requires left { WasLeft self.now.device chain.now request runs.old }
-        requires asks { asks_image request ≡ true }
-        ensures operation { result ≡ operation_of stable request }
-        ensures runs { (readable : List ℕ) → IsLeft self.now.device readable chain.now request runs.old →
-            runs.new ≡ runs_by request readable chain.now }
-    {
-        match request {
-            Request::Read { sector, count } => {
-                let len = SECTOR_LEN * count;
-                chain.runs(true, 0, len, runs);
-                Operation {
-                    kind: OperationKind::In,
-                    start: SECTOR_LEN * sector,
-                    len,
-                    stable: false,
-                }
-            }
-            Request::Write { sector, count } => {
-                let len = SECTOR_LEN * count;
-                chain.runs(false, HEADER_LEN, HEADER_LEN + len, runs);
-                Operation {
-                    kind: OperationKind::Out,
-                    start: SECTOR_LEN * sector,
-                    len,
-                    stable,
-                }
-            }
-            Request::WriteZeroes { .. } => Operation {
-                kind: OperationKind::Zeroes,
-                stable,
-                ..FLUSH
-            },
-            Request::Flush => {
-                runs.clear();
-                FLUSH
-            }
-            Request::Rejected(_) | Request::GetId => unreachable!(),
         }
     }
 }

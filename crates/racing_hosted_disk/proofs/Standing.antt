@@ -16,13 +16,12 @@ use Rattle.block_device.specs.declared.device.BlockDevice.{BlockDevice}
 use Rattle.block_device.specs.declared.operation.Verdict.{Verdict}
 use Rattle.block_device.specs.Asking.{status_by}
 use Rattle.block_device.specs.Request.{code_of}
-use Rattle.block_device.specs.Operation.{IsToldToHost, runs_for}
+use Rattle.block_device.specs.Operation.{IsToldToHost, runs_by, runs_for}
 use Rattle.racing_service.specs.declared.stage.Stage.{Stage}
 use Rattle.racing_service.specs.Queue.{RacingKind}
 use Rattle.racing_service.specs.Service.{Standing}
 use Rattle.racing_service.proofs.Rounds.{StandsStill}
 use Rattle.racing_service.proofs.Standing.{one_still}
-use Rattle.racing_disk.specs.Telling.{runs_by}
 use Rattle.racing_disk.proofs.Standing.{copy_still, left_still, runs_still, told_still}
 use Rattle.racing_hosted_disk.specs.Laws.{IsAskedAlone, IsToldOf, LandsAsOne, moment_asked}
 use Rattle.racing_hosted_disk.specs.Looking.{AsksIn, Place}

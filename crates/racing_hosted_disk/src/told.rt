@@ -4,7 +4,6 @@ ghost use Rattle.std.specs.Prelude.{◌≡◌, IfNone, IfSome, None, Some, get_o
 ghost use Rattle.chain.specs.declared.budget.Budget.{Budget};
 ghost use Rattle.guest_memory.specs.Memory.{SameRange};
 ghost use Rattle.shared_memory.specs.Sightings.{memory};
-ghost use Rattle.block_device.specs.declared.operation.HostEvent.{HostEvent};
 ghost use Rattle.racing_hosted_disk.specs.Disk.{HoldsFlights};
 ghost use Rattle.racing_hosted_disk.specs.Looking.{idle, place_at};
 ghost use Rattle.racing_hosted_disk.specs.Tags.{freed, is_any};
@@ -51,47 +50,23 @@ impl<T: Drop, A: Allocator> RacingHostedDisk<T, A> {
     {
         match said {
             HostEvent::Complete { tag, verdict } => {
-                self.complete(tag, verdict, mem, queue, limits, stable, chain, room)
+                let before = self.land(tag, verdict, mem, queue)?;
+                let served = self.serve_from(mem, queue, Stage::Again, limits, stable, chain, room);
+                Some(Served {
+                    ending: served.ending,
+                    wanted: before | served.wanted,
+                })
             }
             HostEvent::Drop => self.give_up(),
             HostEvent::Hold => self.hold(),
-            HostEvent::Release => self.release(mem, queue, limits, stable, chain, room),
+            HostEvent::Release => {
+                if !self.on_hold {
+                    return None;
+                }
+                self.on_hold = false;
+                Some(self.look(mem, queue, Stage::First, limits, stable, chain, room))
+            }
         }
-    }
-
-    // Completes the operation of this tag, and looks at the queue behind its closing. `None` where no operation has the tag.
-    fn complete<Q: KeepsFlights<Token = T>, M: Shared>(
-        &mut self,
-        tag: u8,
-        verdict: Verdict,
-        mem: &mut M,
-        queue: &mut Q,
-        limits: LookLimits,
-        stable: bool,
-        chain: &mut Chain,
-        room: &mut Room,
-    ) -> Option<Served>
-        requires lies { Q.LiesIn (memory (M.sightings mem.old)) queue.old }
-        requires held { HoldsFlights Q.entry_of Q.Fits Q.ahead_of (memory (M.sightings mem.old)) queue.old self.old }
-        ensures found { is_some result ≡ has_effect (HostEvent.Complete tag verdict) self.old }
-        ensures does { IfSome result (λ served. DoesAsTold Q.kind Q.entry_of Q.IsTaken (M.races mem.old) limits stable
-            (HostEvent.Complete tag verdict) self.old (M.sightings mem.old) (M.sightings mem.new) queue.old queue.new self.new
-            served.ending served.wanted) }
-        ensures kept { IfNone result (self.new ≡ self.old) }
-        ensures unwritten { IfNone result (M.sightings mem.new ≡ M.sightings mem.old) }
-        ensures untouched { IfNone result (queue.new ≡ queue.old) }
-        ensures device { self.new.device ≡ self.old.device }
-        ensures range { SameRange (memory (M.sightings mem.old)) (memory (M.sightings mem.new)) }
-        ensures races { M.races mem.new ≡ M.races mem.old }
-        ensures lies { Q.LiesIn (memory (M.sightings mem.new)) queue.new }
-        ensures held { HoldsFlights Q.entry_of Q.Fits Q.ahead_of (memory (M.sightings mem.new)) queue.new self.new }
-    {
-        let before = self.land(tag, verdict, mem, queue)?;
-        let served = self.serve_from(mem, queue, Stage::Again, limits, stable, chain, room);
-        Some(Served {
-            ending: served.ending,
-            wanted: before | served.wanted,
-        })
     }
 
     // Completes the operation of this tag, and closes the queue behind it: whether the driver wants a notification. `None` where
@@ -149,36 +124,5 @@ impl<T: Drop, A: Allocator> RacingHostedDisk<T, A> {
         }
         self.on_hold = true;
         Some(Served::IDLE)
-    }
-
-    // Has chains taken again, and looks at the queue. `None` where it isn't on hold.
-    fn release<Q: KeepsFlights<Token = T>, M: Shared>(
-        &mut self,
-        mem: &mut M,
-        queue: &mut Q,
-        limits: LookLimits,
-        stable: bool,
-        chain: &mut Chain,
-        room: &mut Room,
-    ) -> Option<Served>
-        requires lies { Q.LiesIn (memory (M.sightings mem.old)) queue.old }
-        requires held { HoldsFlights Q.entry_of Q.Fits Q.ahead_of (memory (M.sightings mem.old)) queue.old self.old }
-        ensures found { is_some result ≡ self.old.on_hold }
-        ensures does { IfSome result (λ served. DoesAsTold Q.kind Q.entry_of Q.IsTaken (M.races mem.old) limits stable HostEvent.Release
-            self.old (M.sightings mem.old) (M.sightings mem.new) queue.old queue.new self.new served.ending served.wanted) }
-        ensures kept { IfNone result (self.new ≡ self.old) }
-        ensures unwritten { IfNone result (M.sightings mem.new ≡ M.sightings mem.old) }
-        ensures untouched { IfNone result (queue.new ≡ queue.old) }
-        ensures device { self.new.device ≡ self.old.device }
-        ensures range { SameRange (memory (M.sightings mem.old)) (memory (M.sightings mem.new)) }
-        ensures races { M.races mem.new ≡ M.races mem.old }
-        ensures lies { Q.LiesIn (memory (M.sightings mem.new)) queue.new }
-        ensures held { HoldsFlights Q.entry_of Q.Fits Q.ahead_of (memory (M.sightings mem.new)) queue.new self.new }
-    {
-        if !self.on_hold {
-            return None;
-        }
-        self.on_hold = false;
-        Some(self.look(mem, queue, Stage::First, limits, stable, chain, room))
     }
 }

@@ -1,5 +1,5 @@
 -- A walk through one table is one through another that agrees on its members, and in another memory of its range.
-use Rattle.std.proofs.Common.{◌≡◌, ◌∙◌, ℕ, List, [], ◌∷◌, ◌++◌, refl, sym, ap, subst}
+use Rattle.std.proofs.Common.{Bool, ◌≡◌, ◌∙◌, ℕ, List, [], ◌∷◌, ◌++◌, refl, sym, ap, subst}
 use Rattle.guest_memory.specs.Memory.{Memory, SameRange}
 use Rattle.guest_memory.proofs.Ranges.{inside_same}
 use Rattle.chain.specs.declared.segment.Buffer.{Buffer}
@@ -7,6 +7,8 @@ use Rattle.chain.specs.declared.fault.Fault.{Fault}
 use Rattle.chain.specs.declared.fault.Fault.TheVariants.{Range, TooMany, TooLong}
 use Rattle.chain.specs.Buffers.{Admits, AdmitsAll, Refuses}
 use Rattle.indirect.specs.declared.descriptor.Descriptor.{Descriptor}
+use Rattle.indirect.specs.Lists.{TableFaulty, packed_tables, split_tables}
+use Rattle.indirect.specs.Tables.{IsNoTable, IsTable, TableFails}
 use Rattle.indirect.specs.Walks.{Follows, Leads, first_of, buffers_of, Reached}
 use Rattle.shared_memory.proofs.Sightings.{same_back}
 
@@ -84,3 +86,18 @@ refuses_back m m' bs b TooMany s r = (inside_same m' m b.segment.addr b.segment.
 refuses_back m m' bs b TooLong s r =
     (inside_same m' m b.segment.addr b.segment.len (same_back m m' s) r.0, r.1, r.2)
 refuses_back m m' bs b _ s r = absurd r
+
+-- ---- a range that is no table
+
+module _ (negotiated : Bool) (m : Memory) (before : List Buffer) (d : Descriptor) (fault : Fault)
+    (is : IsNoTable m d.buffer.segment.addr d.buffer.segment.len fault)
+    (none : ¬ IsTable m d.buffer.segment.addr d.buffer.segment.len) where
+  no_table : (Meets : Fault → List Buffer → Type 0)
+      → TableFails m d.buffer.segment.addr d.buffer.segment.len before Meets fault before
+  no_table Meets = record { no_table = λ not_one. (is, refl); walked = λ one. absurd (none one) }
+
+  pub no_split_table : TableFaulty split_tables negotiated m before d fault
+  no_split_table = record { left = before; table = no_table _ }
+
+  pub no_packed_table : TableFaulty packed_tables negotiated m before d fault
+  no_packed_table = record { left = before; table = no_table _ }

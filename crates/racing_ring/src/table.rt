@@ -1,6 +1,6 @@
 //! An indirect table, copied and walked.
 
-ghost use Rattle.std.specs.Prelude.{◌≡◌, ℕ, length, [], ◌∷◌, ◌++◌, OnOk, IfErr, OnErr};
+ghost use Rattle.std.specs.Prelude.{◌≡◌, ℕ, length, take, [], ◌∷◌, ◌++◌, OnOk, IfErr, OnErr};
 ghost use Rattle.guest_memory.specs.Memory.{part_of};
 ghost use Rattle.chain.specs.Buffers.{Admits, Refuses};
 ghost use Rattle.indirect.specs.Tables.{IsNoTable, IsTable, SplitTableResolves, SplitTableFails};
@@ -36,35 +36,25 @@ pub(crate) fn append_table<M: Shared>(
     if descriptor.next.is_some() {
         return Err(Fault::Joined);
     }
-    let table = descriptor.buffer.segment;
-    append_copied(mem, table.addr, table.len, chain, room)
+    let Segment { addr, len } = descriptor.buffer.segment;
+    copy_table(mem, addr, len, room)?;
+    walk_copy(mem, addr, len, &room[..len as usize], chain)
 }
 
-/// Copies the split table of `len` bytes at `addr`, and puts its buffers into the chain.
-fn append_copied<M: Shared>(
+/// Copies the table of `len` bytes at `addr`, in either layout, into the first places of `room`. Refused are a length that no
+/// table has (`Table`), and else a table that isn't inside memory (`Range`).
+pub(crate) fn copy_table<M: Shared>(
     mem: &mut M,
     addr: u64,
     len: u32,
-    chain: &mut Chain,
     room: &mut [u8; 4096],
 ) -> Result<(), Fault>
     ensures loads { Loads (M.races mem.old) (M.sightings mem.old) (M.sightings mem.new) }
     ensures races { M.races mem.new ≡ M.races mem.old }
-    ensures ok { OnOk result (SplitTableResolves (memory (M.sightings mem.new)) addr len chain.old chain.new) }
-    ensures fault { IfErr result (λ fault. SplitTableFails (memory (M.sightings mem.new)) addr len chain.old fault chain.new) }
-{
-    test_table(mem, addr, len)?;
-    let copy = &mut room[..len as usize];
-    mem.load(addr, copy);
-    walk_copy(mem, addr, len, copy, chain)
-}
-
-/// Whether the `len` bytes at `addr` may be a table, in either layout. Refused are a length that no table has (`Table`), and
-/// else a table that isn't inside memory (`Range`).
-pub(crate) fn test_table<M: Shared>(mem: &M, addr: u64, len: u32) -> Result<(), Fault>
-    ensures ok { OnOk result (IsTable (memory (M.sightings mem.now)) addr len) }
-    ensures err { OnErr result (¬ IsTable (memory (M.sightings mem.now)) addr len) }
-    ensures fault { IfErr result (IsNoTable (memory (M.sightings mem.now)) addr len) }
+    ensures ok { OnOk result (IsTable (memory (M.sightings mem.new)) addr len) }
+    ensures copied { OnOk result (take len room.new ≡ part_of (memory (M.sightings mem.new)) addr len) }
+    ensures err { OnErr result (¬ IsTable (memory (M.sightings mem.new)) addr len) }
+    ensures fault { IfErr result (IsNoTable (memory (M.sightings mem.new)) addr len) }
 {
     if len == 0 || len > MOST_LEN || len % DESCRIPTOR_LEN != 0 {
         return Err(Fault::Table);
@@ -72,6 +62,7 @@ pub(crate) fn test_table<M: Shared>(mem: &M, addr: u64, len: u32) -> Result<(), 
     if !mem.holds(addr, u64::from(len)) {
         return Err(Fault::Range);
     }
+    mem.load(addr, &mut room[..len as usize]);
     Ok(())
 }
 

@@ -6,8 +6,8 @@ ghost use Rattle.indirect.specs.Tables.{IsTable, PackedTableResolves, PackedTabl
 ghost use Rattle.indirect.specs.Lists.{packed_tables, EndsInTable, TableRefused};
 ghost use Rattle.shared_memory.specs.Sightings.{Loads, memory};
 
-use crate::table::{DESCRIPTOR_LEN, push, test_table};
-use chain::{Chain, Fault};
+use crate::table::{DESCRIPTOR_LEN, copy_table, push};
+use chain::{Chain, Fault, Segment};
 use indirect::{Descriptor, PackedDescriptor};
 use shared_memory::Shared;
 
@@ -32,27 +32,9 @@ pub(crate) fn append_table<M: Shared>(
     if count > 0 || descriptor.next.is_some() {
         return Err(Fault::Joined);
     }
-    let table = descriptor.buffer.segment;
-    append_copied(mem, table.addr, table.len, chain, room)
-}
-
-/// Copies the packed table of `len` bytes at `addr`, and puts its buffers into the chain.
-fn append_copied<M: Shared>(
-    mem: &mut M,
-    addr: u64,
-    len: u32,
-    chain: &mut Chain,
-    room: &mut [u8; 4096],
-) -> Result<(), Fault>
-    ensures loads { Loads (M.races mem.old) (M.sightings mem.old) (M.sightings mem.new) }
-    ensures races { M.races mem.new ≡ M.races mem.old }
-    ensures ok { OnOk result (PackedTableResolves (memory (M.sightings mem.new)) addr len chain.old chain.new) }
-    ensures fault { IfErr result (λ fault. PackedTableFails (memory (M.sightings mem.new)) addr len chain.old fault chain.new) }
-{
-    test_table(mem, addr, len)?;
-    let copy = &mut room[..len as usize];
-    mem.load(addr, copy);
-    append_buffers(mem, addr, len, copy, chain)
+    let Segment { addr, len } = descriptor.buffer.segment;
+    copy_table(mem, addr, len, room)?;
+    append_buffers(mem, addr, len, &room[..len as usize], chain)
 }
 
 /// Puts the buffers of all descriptors of the copy of the table of `len` bytes at `addr` into the chain, in their order.

@@ -1,22 +1,26 @@
 use Rattle.std.proofs.Common.{sym, ap, ◌∙◌, not, arith}
+use Rattle.chain.specs.Bytes.{readable_of}
+use Rattle.chain.proofs.Directions.{length-readable_of}
 use Rattle.negotiation.specs.Features.{block_flush}
 use Rattle.negotiation.specs.Negotiation.{negotiated_of}
 use Rattle.negotiation.specs.Sets.{has}
 use Rattle.mmio_window.proofs.Pieces.{queue_stands_open}
 use Rattle.block_device.specs.Operation.{operation_of}
-use Rattle.block_device.proofs.Telling.{told_inside}
+use Rattle.block_device.proofs.Telling.{places, told_inside, told_runs}
 use Rattle.block_device.proofs.Unasked.{any_disk}
 use Rattle.mmio_window.proofs.Soundness.{serving_keeps_sound}
 use Rattle.mmio_window.specs.Window.{queue_at, with_ring}
 use Rattle.block_device.proofs.Anywhere.{asks_at, hosts_to, none_asks}
 use Rattle.block_device.proofs.device.BlockDevice.host_piece.Goals as goal
 
-pub tell-operation-requires-clause-asked : goal.tell-operation-requires-clause-asked
-tell-operation-requires-clause-asked g c = record {
-  memory = c.serve_queue.new.mem;
-  good = c.in-Err.ensures.refuses.left.good;
-  asked = c.in-Err.ensures.refuses.left.refuses.asked;
-}
+pub tell-operation-requires-clause-places : goal.tell-operation-requires-clause-places
+tell-operation-requires-clause-places g c =
+    let asked = c.in-Err.ensures.refuses.left.refuses.asked in
+    let good = c.in-Err.ensures.refuses.left.good in
+    places c.args.self.now (readable_of c.serve_queue.new.mem c.serve_queue.new.chain) asked.room
+    c.serve_queue.new.chain c.in-Err.asked.why
+    (length-readable_of c.serve_queue.new.mem c.serve_queue.new.chain good.inside) asked.all asked.is asked.servable
+    asked.asks
 
 pub of-requires : goal.of-requires
 of-requires g c =
@@ -45,7 +49,9 @@ returns-in-Err-clause-served g c disk = record {
       ∙ ap (λ flushes. operation_of (not flushes) c.in-Err.asked.why)
       (c.contains-stable.ensures tt ∙ ap (λ bits. has bits block_flush) (c.negotiated-negotiated.ensures.value
       ∙ ap negotiated_of c.negotiation.ensures));
-  runs_are = c.tell-operation.ensures.runs c.serve_queue.new.mem c.in-Err.ensures.refuses.left.refuses;
+  runs_are = c.tell-operation.ensures.runs
+      ∙ told_runs c.args.self.now c.serve_queue.new.mem c.serve_queue.new.chain c.in-Err.asked.why
+      c.serve_queue.new.backend c.in-Err.ensures.refuses.left.refuses;
 }
 
 pub returns-in-Err-clause-flight : goal.returns-in-Err-clause-flight
@@ -69,10 +75,14 @@ returns-in-Err-clause-inside g c =
     c.in-Some.queue.now c.serve_queue.new.queue c.serve_queue.new.chain c.serve_queue.new.backend
     c.in-Err.asked
     c.in-Err.ensures.refuses any_disk in
+    let asked = asks.stops.asked in
     rw c.of.ensures.operation (told_inside c.args.self.now c.serve_queue.new.mem c.serve_queue.new.chain
-    c.in-Err.asked.why (not c.contains-stable.result) c.tell-operation.result c.tell-operation.new.runs
-    asks.good asks.stops.asked c.tell-operation.ensures.operation
-    (c.tell-operation.ensures.runs c.serve_queue.new.mem c.in-Err.ensures.refuses.left.refuses))
+    c.in-Err.asked.why (readable_of c.serve_queue.new.mem c.serve_queue.new.chain) (not c.contains-stable.result)
+    asked.room c.tell-operation.result c.tell-operation.new.runs asks.good asked.is asked.servable asked.asks
+    c.tell-operation.ensures.operation
+    (c.tell-operation.ensures.runs
+    ∙ told_runs c.args.self.now c.serve_queue.new.mem c.serve_queue.new.chain c.in-Err.asked.why
+    c.serve_queue.new.backend c.in-Err.ensures.refuses.left.refuses))
 
 pub returns-in-Err-clause-sound : goal.returns-in-Err-clause-sound
 returns-in-Err-clause-sound g c =

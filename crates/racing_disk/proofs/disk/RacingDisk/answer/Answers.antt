@@ -7,8 +7,8 @@ use Rattle.racing_service.proofs.Rows.{byte_stored, once_range}
 use Rattle.racing_disk.proofs.Answering.{answered}
 use Rattle.racing_disk.proofs.disk.RacingDisk.answer.Goals as goal
 
-pub overflow_cast-writable_len : goal.overflow_cast-writable_len
-overflow_cast-writable_len g c =
+pub used-used-requires-clause-fits : goal.used-used-requires-clause-fits
+used-used-requires-clause-fits g c =
     omega (
       arith,
       c.writable_len.ensures,
@@ -22,18 +22,19 @@ give-requires-clause-lies g c =
     let once = byte_stored _ _ _ c.last_writable.result c.code.result c.code.type_inv c.store_u8.ensures.stores in
     g.met.Q.RacingQueue.lies_in_range (memory (g.M.Shared.sightings c.args.mem.now))
     (memory (g.M.Shared.sightings c.store_u8.new.self)) c.args.queue.now
-    (same_trans _ _ _ c.store_found-found.ensures.range (once_range _ _ _ _ _ once)) c.requires.lies
+    (same_trans _ _ _ c.store_found-done.ensures.range (once_range _ _ _ _ _ once)) c.requires.lies
 
 pub returns-clause-answered : goal.returns-clause-answered
 returns-clause-answered g c = λ readable left.
     let once = byte_stored _ _ _ c.last_writable.result c.code.result c.code.type_inv c.store_u8.ensures.stores in record {
       done = g.M.Shared.sightings c.store_u8.new.self;
       answered = answered c.args.self.now.device (g.M.Shared.races c.args.mem.now) (g.M.Shared.sightings c.args.mem.now)
-          (g.M.Shared.sightings c.store_found-found.new.mem) (g.M.Shared.sightings c.store_u8.new.self) readable c.args.chain.now
-          c.args.request c.args.room.now c.store_found-found.result.len c.last_writable.result c.used_len-len.result
-          c.store_found-found.result.status left c.store_found-found.ensures.found c.last_writable.ensures.value
-          (rw (c.code.ensures, c.store_found-found.ensures.races) at once)
-          (c.used_len-len.ensures ∙ ap (used_by c.store_found-found.result.len) c.writable_len.ensures);
-      given = rw (c.store_u8.ensures.races ∙ c.store_found-found.ensures.races) at c.give.ensures.given;
+          (g.M.Shared.sightings c.store_found-done.new.mem) (g.M.Shared.sightings c.store_u8.new.self) readable c.args.chain.now
+          c.args.request c.args.room.now c.store_found-done.result.len c.last_writable.result c.used-used.result.len
+          c.store_found-done.result.status left c.store_found-done.ensures.found c.last_writable.ensures.value
+          (rw (c.code.ensures, c.store_found-done.ensures.races) at once)
+          (c.used-used.ensures.len ∙ ap (used_by c.store_found-done.result.len) c.writable_len.ensures);
+      given = rw (c.store_u8.ensures.races ∙ c.store_found-done.ensures.races, c.used-used.ensures.wrote) at
+          c.give.ensures.given;
       past = c.give.ensures.past;
     }

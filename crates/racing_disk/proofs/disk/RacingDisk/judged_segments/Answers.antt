@@ -18,15 +18,15 @@ returns-then-self-clause-err g c =
 pub returns-clause-ok : goal.returns-clause-ok
 returns-clause-ok g c =
     IfOk-weaker c.judged.result _ _
-    (λ segments judged. judged_payload _ _ c.args.chain.now c.args.self.now.device c.args.len c.read.result c.are_segments.result
+    (λ segments judged. judged_payload _ _ c.args.chain.now c.args.self.now.device c.args.len c.read_segments-segments.result c.are_segments.result
     (λ payload. AreJudged c.args.self.now.device payload segments) c.if-self.false c.are_segments.ensures
-    c.if-not-are_segments.false c.read.ensures.copied judged)
+    c.if-not-are_segments.false c.read_segments-segments.ensures.copied judged)
     c.judged.ensures.ok
 
 pub returns-clause-err : goal.returns-clause-err
 returns-clause-err g c =
     IfErr-weaker c.judged.result _ _
-    (λ status judged. judged_payload _ _ c.args.chain.now c.args.self.now.device c.args.len c.read.result c.are_segments.result
+    (λ status judged. judged_payload _ _ c.args.chain.now c.args.self.now.device c.args.len c.read_segments-segments.result c.are_segments.result
     (λ payload. write_zeroes_request_of c.args.self.now.device payload ≡ Rejected status) c.if-self.false
-    c.are_segments.ensures c.if-not-are_segments.false c.read.ensures.copied judged)
+    c.are_segments.ensures c.if-not-are_segments.false c.read_segments-segments.ensures.copied judged)
     c.judged.ensures.err

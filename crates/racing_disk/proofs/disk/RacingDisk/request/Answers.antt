@@ -9,20 +9,20 @@ returns-then-readable-lt-HEADER_LEN-clause-judged g c =
     c.readable_len-readable.result c.args.runs.now c.requires.good (sym c.readable_len-readable.ensures.value)
     c.if-readable-lt-HEADER_LEN.true
 
-pub returns-in-Some-clause-judged : goal.returns-in-Some-clause-judged
-returns-in-Some-clause-judged g c =
+pub returns-in-Known-clause-judged : goal.returns-in-Known-clause-judged
+returns-in-Known-clause-judged g c =
     known_judged c.args.self.now.device (g.M.Shared.races c.args.mem.now) (g.M.Shared.sightings c.args.mem.now)
-    (g.M.Shared.sightings c.read-header.new.mem) c.args.chain.now c.args.room c.readable_len-readable.result
-    c.read-header.result.kind c.read-header.result.sector c.in-Some.request c.read-header.new.room c.requires.good
-    c.read-header.ensures.loads (sym c.readable_len-readable.ensures.value) c.if-readable-lt-HEADER_LEN.false
-    c.read-header.ensures.header c.in-Some.ensures.known
+    (g.M.Shared.sightings c.read_header-header.new.mem) c.args.chain.now c.args.room c.readable_len-readable.result
+    c.read_header-header.result.kind c.read_header-header.result.sector c.in-Known.request c.read_header-header.new.room c.requires.good
+    c.read_header-header.ensures.loads (sym c.readable_len-readable.ensures.value) c.if-readable-lt-HEADER_LEN.false
+    c.read_header-header.ensures.header c.in-Known.ensures
 
-pub returns-in-None-clause-judged : goal.returns-in-None-clause-judged
-returns-in-None-clause-judged g c =
+pub returns-in-Zeroes-clause-judged : goal.returns-in-Zeroes-clause-judged
+returns-in-Zeroes-clause-judged g c =
     zeroes_judged c.args.self.now.device (g.M.Shared.races c.args.mem.now) (g.M.Shared.sightings c.args.mem.now)
-    (g.M.Shared.sightings c.read-header.new.mem) (g.M.Shared.sightings c.zeroes_request.new.mem) c.args.chain.now
-    c.args.room c.readable_len-readable.result c.read-header.result.kind c.read-header.result.sector
-    c.zeroes_request.result c.zeroes_request.new.runs c.read-header.ensures.loads
-    (rw c.read-header.ensures.races at c.zeroes_request.ensures.loads) (sym c.readable_len-readable.ensures.value)
-    c.if-readable-lt-HEADER_LEN.false c.read-header.ensures.header c.in-None.ensures.zeroes
+    (g.M.Shared.sightings c.read_header-header.new.mem) (g.M.Shared.sightings c.zeroes_request.new.mem) c.args.chain.now
+    c.args.room c.readable_len-readable.result c.read_header-header.result.kind c.read_header-header.result.sector _
+    c.zeroes_request.result c.zeroes_request.new.runs c.read_header-header.ensures.loads
+    (rw c.read_header-header.ensures.races at c.zeroes_request.ensures.loads) (sym c.readable_len-readable.ensures.value)
+    c.if-readable-lt-HEADER_LEN.false c.read_header-header.ensures.header c.in-Zeroes.ensures
     c.zeroes_request.ensures.zeroing

@@ -1,4 +1,4 @@
-use Rattle.racing_hosted_disk.proofs.Telling.{dropped, dropped_holds, held_back}
+use Rattle.racing_hosted_disk.proofs.Telling.{completed, dropped, dropped_holds, held_back}
 use Rattle.racing_hosted_disk.proofs.disk.RacingHostedDisk.tell.Goals as goal
 
 pub returns-in-Drop-clause-does : goal.returns-in-Drop-clause-does
@@ -17,3 +17,11 @@ returns-in-Hold-clause-does g c =
     rw (c.in-Hold.is)
     (held_back g.Q.RacingQueue.kind g.Q.RacingQueue.entry_of g.Q.RacingQueue.IsTaken _ c.args.limits c.args.stable c.hold.result c.args.self.now
     c.hold.new.self _ _ c.hold.ensures.idle c.hold.ensures.held)
+
+pub returns-in_ok-before-in-Complete-clause-does : goal.returns-in_ok-before-in-Complete-clause-does
+returns-in_ok-before-in-Complete-clause-does g c =
+    rw (c.in-Complete.is)
+    (completed g.Q.RacingQueue.kind g.Q.RacingQueue.entry_of g.Q.RacingQueue.IsTaken _ c.args.limits c.args.stable
+    c.in-Complete.tag c.in-Complete.verdict c.args.self.now c.land.new.self _ _ _ _ _ _ _ _ _ _
+    c.in_ok-before-in-Complete.ensures.rest (c.in_ok-before-in-Complete.ensures.lands c.args.limits.budget)
+    (rw c.in_ok-before-in-Complete.ensures.races at c.serve_from-served.ensures.serves))

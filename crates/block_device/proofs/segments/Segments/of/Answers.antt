@@ -1,6 +1,6 @@
 use Rattle.std.proofs.Common.{◌∙◌, ap, arith}
 use Rattle.block_device.proofs.Judging.{count_first, first_segments, segments_more}
-use Rattle.racing_disk.proofs.segments.Segments.of.Goals as goal
+use Rattle.block_device.proofs.segments.Segments.of.Goals as goal
 
 pub push-requires : goal.push-requires
 push-requires c =

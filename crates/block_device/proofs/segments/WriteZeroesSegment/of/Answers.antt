@@ -3,7 +3,7 @@ use Rattle.std.proofs.lemmas.List.{length-take-le, take_all}
 use Rattle.byteorder.specs.Endian.{little_number}
 use Rattle.block_device.specs.Zeroes.{segment_of}
 use Rattle.block_device.proofs.Judging.{same_segment}
-use Rattle.racing_disk.proofs.segment.WriteZeroesSegment.of.Goals as goal
+use Rattle.block_device.proofs.segments.WriteZeroesSegment.of.Goals as goal
 
 pub returns : goal.returns
 returns c =

@@ -1,6 +1,6 @@
 use Rattle.std.proofs.Common.{arith}
 use Rattle.racing_disk.proofs.Judging.{behind_all, behind_long}
-use Rattle.racing_disk.proofs.segments.Segments.read.Goals as goal
+use Rattle.racing_disk.proofs.segments.read_segments.Goals as goal
 
 pub returns-clause-copied : goal.returns-clause-copied
 returns-clause-copied g c =
