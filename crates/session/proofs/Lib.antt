@@ -2,7 +2,6 @@ pub mod Midway
 pub mod PacedAlone
 pub mod Access
 pub mod Noted
-pub mod Places
 pub mod Suiting
 pub mod Waiting
 pub mod Unchanged

@@ -19,7 +19,7 @@ use Rattle.board.proofs.Blocks.{read_given}
 use Rattle.board.proofs.Seats.{extents_of-set, others_kept}
 use Rattle.session.specs.Session.{IsStep, SessionState, with_memory, world_of}
 use Rattle.session.proofs.Parts.{given}
-use Rattle.session.proofs.Places.{not_true}
+use Rattle.board.proofs.Reading.{not_true}
 use Rattle.session.proofs.Unchanged.{refused_at, unchanged}
 
 held : (found : BoardSlot) (addr n : ℕ) → Inside found.memory addr n → is_inside found.memory addr n ≡ true
