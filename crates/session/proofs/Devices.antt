@@ -4,8 +4,8 @@ use Rattle.std.specs.Prelude.{◌&&◌, if◌then◌else◌, is_some, nat_lt, un
 use Rattle.std.specs.List.{slice_get}
 use Rattle.std.specs.Option.{option_and_then, option_map, option_map_or}
 use Rattle.std.proofs.lemmas.Bool.Decides.{nat_tests}
-use Rattle.std.proofs.lemmas.List.{length-map, same_lists}
-use Rattle.std.proofs.lemmas.Option.{same_Some, slice_get_cases, slice_get_within, unwrap_or-slice_get}
+use Rattle.std.proofs.lemmas.List.{length-map}
+use Rattle.std.proofs.lemmas.Option.{same_Some, slice_get_cases, slice_get_within}
 use Rattle.block_device.specs.Flights.{is_any}
 use Rattle.network_device.specs.declared.refusal.FrameRefusal.TheVariants.{Full}
 use Rattle.device_list.specs.declared.refusal.ReceiveRefusal.{ReceiveRefusal}
@@ -39,10 +39,9 @@ use Rattle.session.specs.Answering.{IsDoneOrRefusing, IsReading, IsServing, IsTa
 use Rattle.session.specs.declared.progress.Progress.{Progress}
 use Rattle.session.specs.declared.progress.Progress.TheVariants as progress
 use Rattle.session.specs.declared.refusal.Refusal.{Refusal}
-use Rattle.session.specs.Session.{IsStep, SessionState, output_of, world_of}
+use Rattle.session.specs.Session.{IsStep, SessionState, world_of}
 use Rattle.session.proofs.Parts.{given}
-use Rattle.session.proofs.Ranges.{behind}
-use Rattle.session.proofs.Steps.{as_many}
+use Rattle.session.proofs.Slots.{slots_step}
 use Rattle.session.proofs.Suiting.{suits}
 use Rattle.session.proofs.Unchanged.{missing as past_step, unchanged}
 
@@ -340,17 +339,6 @@ module _ (A : Type 0) (old new : World) (slot n : ℕ) (what : DeviceEvent A) (r
 
 -- ---- what the board answers by a slice is the session's step
 
--- where there is no such slot, none changed
-slots_stay : (old new : List BoardSlot) (slot : ℕ) → KeepsOthers slot old new → extents_of new ≡ extents_of old
-    → length old ≤ slot → new ≡ old
-slots_stay old new slot others extents past =
-    same_lists new old (as_many old new extents)
-    (λ k d fits. sym (unwrap_or-slice_get new k d)
-    ∙ (ap (λ (o : Option BoardSlot). unwrap_or o d) (others k (differs k fits)) ∙ unwrap_or-slice_get old k d))
-  where
-    differs : (k : ℕ) → k < length new → k ≢ slot
-    differs k fits is = absurd (omega (arith, as_many old new extents, past, fits, is))
-
 module _ (A : Type 0) (old new : SessionState) (slot n : ℕ) (what : DeviceEvent A) (reply : Reply A)
     (answers : Answers {A = A} (world_of old) (record { slot = slot; what = Device n what }) reply [] []
     (world_of new)) (others : KeepsOthers slot old.slots new.slots)
@@ -384,28 +372,10 @@ module _ (A : Type 0) (old new : SessionState) (slot n : ℕ) (what : DeviceEven
   in_range : reply ≡ BadRange → ⊥
   in_range is = (never what).1 (subst (λ (r : Reply A). Suits (Device n what) r) is (suits answers))
 
-  outputs : new.outputs ≡ old.outputs
-  outputs = ap (λ (s : SessionState). s.outputs) rest
-
   pub step : IsStep {A = A} old (record { slot = slot; what = Device n what }) reply new
-  step = record {
-    answers = rw outputs (behind (output_of slot old) answers);
-    others = others;
-    outputs = λ other differ. rw outputs refl;
-    extents = extents;
-    size = ap (λ (s : SessionState). length s.image) rest;
-    limits = λ other. rw outputs refl;
-    paused = ap (λ (s : SessionState). s.paused) rest;
-    budget = ap (λ (s : SessionState). s.budget) rest;
-    within = λ one after here there. tt;
-    refused = λ is. absurd (found is);
-    bad_slot = missing;
-    bad_slot_keeps = λ is.
-        rest ∙ ap (λ (slots : List BoardSlot). record old { slots = slots })
-        (slots_stay old.slots new.slots slot others extents (missing.0 is));
-    bad_range_keeps = λ is. absurd (in_range is);
-    no_memory = λ is. absurd (found is);
-  }
+  step =
+      slots_step old new (record { slot = slot; what = Device n what }) reply answers others extents rest
+      (λ limit found after waiting left reply. tt) found in_range missing
 
 -- ---- a frame is taken whole, or there is no room for it
 

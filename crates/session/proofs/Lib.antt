@@ -6,6 +6,7 @@ pub mod Suiting
 pub mod Waiting
 pub mod Unchanged
 pub mod Steps
+pub mod Slots
 pub mod Ranges
 pub mod Calls
 pub mod Quiet
