@@ -34,12 +34,11 @@ transmit_keeps stage served refused budget queue m m' w w' s s' (Err why) ok no_
 
 -- ---- a slot stays sound
 
--- where its memory changed
-pub memory_changed : {devices : List DeviceState} (m m' : Memory) (read_only : Bool) (block console : WindowState)
-    (pending : List ℕ)
-    → IsSoundSlot m read_only block console pending devices → SameRange m m'
-    → IsSoundSlot m' read_only block console pending devices
-memory_changed {devices} m m' read_only block console pending sound range = record {
+-- where a further device was at work
+pub devices_changed : (m m' : Memory) (read_only : Bool) (block console : WindowState) (pending : List ℕ)
+    (devices devices' : List DeviceState) → IsSoundSlot m read_only block console pending devices → SameRange m m'
+    → AreSoundDevices m' devices' → IsSoundSlot m' read_only block console pending devices'
+devices_changed m m' read_only block console pending devices devices' sound range here = record {
   block_kind = sound.block_kind;
   block_offers = sound.block_offers;
   block_generation = sound.block_generation;
@@ -48,8 +47,17 @@ memory_changed {devices} m m' read_only block console pending sound range = reco
   block_sound = IsSound-same_range m m' block range sound.block_sound;
   console_sound = IsSound-same_range m m' console range sound.console_sound;
   pending_fits = sound.pending_fits;
-  devices_sound = still_sound m m' devices range sound.devices_sound;
+  devices_sound = here;
 }
+
+-- where its memory changed
+pub memory_changed : {devices : List DeviceState} (m m' : Memory) (read_only : Bool) (block console : WindowState)
+    (pending : List ℕ)
+    → IsSoundSlot m read_only block console pending devices → SameRange m m'
+    → IsSoundSlot m' read_only block console pending devices
+memory_changed {devices} m m' read_only block console pending sound range =
+    devices_changed m m' read_only block console pending devices devices sound range
+    (still_sound m m' devices range sound.devices_sound)
 
 -- where its block device was at work
 pub block_changed : {devices : List DeviceState} (m m' : Memory) (read_only : Bool) (block block' console : WindowState) (pending : List ℕ)
@@ -84,22 +92,6 @@ console_changed {devices} m m' read_only block console console' pending pending'
   console_sound = here;
   pending_fits = fits;
   devices_sound = still_sound m m' devices range sound.devices_sound;
-}
-
--- and where a further device was
-pub devices_changed : (m m' : Memory) (read_only : Bool) (block console : WindowState) (pending : List ℕ)
-    (devices devices' : List DeviceState) → IsSoundSlot m read_only block console pending devices → SameRange m m'
-    → AreSoundDevices m' devices' → IsSoundSlot m' read_only block console pending devices'
-devices_changed m m' read_only block console pending devices devices' sound range here = record {
-  block_kind = sound.block_kind;
-  block_offers = sound.block_offers;
-  block_generation = sound.block_generation;
-  console_kind = sound.console_kind;
-  console_offers = sound.console_offers;
-  block_sound = IsSound-same_range m m' block range sound.block_sound;
-  console_sound = IsSound-same_range m m' console range sound.console_sound;
-  pending_fits = sound.pending_fits;
-  devices_sound = here;
 }
 
 -- and as it is opened

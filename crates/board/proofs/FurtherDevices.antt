@@ -1,9 +1,8 @@
 -- What comes of what is done to a further device.
-use Rattle.std.proofs.Common.{◌≡◌, ◌≢◌, inl, inr, ℕ, Bool, true, false, Option, Some, None, List, [], refl, sym, ◌∙◌, ap, subst, length, ◌++◌, ◌∷◌}
-use Rattle.std.specs.Prelude.{if◌then◌else◌, ◌==◌, ◌&&◌, IfSome, is_none, is_some, not, unwrap_or}
+use Rattle.std.proofs.Common.{◌≡◌, ◌≢◌, inl, ℕ, Bool, true, false, Option, Some, None, List, [], refl, sym, ◌∙◌, ap, subst, length, ◌∷◌}
+use Rattle.std.specs.Prelude.{if◌then◌else◌, ◌&&◌, IfSome, is_none, is_some, not, unwrap_or}
 use Rattle.std.specs.List.{slice_get}
 use Rattle.std.specs.Option.{option_and_then, option_map, option_map_or}
-use Rattle.std.proofs.lemmas.Bool.{eq-eqb, ne_eqb}
 use Rattle.std.proofs.lemmas.Option.{same_Some}
 use Rattle.guest_memory.specs.Memory.{Memory}
 use Rattle.device_list.specs.declared.spec.DeviceSpec.{DeviceSpec}
@@ -14,9 +13,8 @@ use Rattle.block_device.specs.Flights.{HostedQueue, InFlight, freed, is_any}
 use Rattle.hosted_disk.specs.Disk.{HostedDisk}
 use Rattle.hosted_disk.specs.Told.{has_effect}
 use Rattle.device_list.specs.Model.{ModelState, Block, Console, Entropy, Network, disk_of, must_wait}
-use Rattle.device_list.specs.Device.{DeviceState, Receives, TakesSent, Told, Writes, fresh_device, register_of, supply_taken}
-use Rattle.device_list.specs.declared.spec.AddRefusal.{AddRefusal}
-use Rattle.device_list.specs.List.{At, card_at, disk_at, outgoing_at, refusal_of, sent_by, terminal_at, waits_at}
+use Rattle.device_list.specs.Device.{DeviceState, Receives, TakesSent, Told, Writes, register_of, supply_taken}
+use Rattle.device_list.specs.List.{At, card_at, disk_at, outgoing_at, sent_by, terminal_at, waits_at}
 use Rattle.device_list.specs.Card.{Card, receive_refusal}
 use Rattle.device_list.specs.Terminal.{Terminal}
 use Rattle.network_device.specs.declared.refusal.FrameRefusal.TheVariants.{Full}
@@ -208,11 +206,6 @@ pub device_given : {A : Type 0} (n : ℕ) (what : DeviceEvent A) (old new : Slot
 device_given n what old new reply health answered h =
     inl (record { alike = h; answered = answered; failures = refl })
 
--- and where there is no memory for it
-pub unmet_given : (A : Type 0) (n : ℕ) (what : DeviceEvent A) (state : SlotState) (health : Health)
-    → TakesMemoryFor n what state → MayGiveOverImage {A = A} state (Device n what) health health (replies state NoMemory)
-unmet_given A n what state health takes = inr (record { takes = takes; unchanged = refl; image = refl })
-
 -- ---- there is at most one outcome
 
 set_once : (wanted : List DeviceState) (m one other : Memory) (new new' : List DeviceState)
@@ -279,53 +272,6 @@ pub device_once : {A : Type 0} (n : ℕ) (what : DeviceEvent A) (state : SlotSta
 device_once n what state h k l one other a b = once_by n what state (reply_at n what state) h k l one other a b
 
 -- ---- what the calls answer is it
-
-plugged_by : (A : Type 0) (n : ℕ) (spec : DeviceSpec) (state new : SlotState) (health : Health) (can : Bool)
-    → can ≡ true → new ≡ with_devices state state.memory (state.devices ++ fresh_device spec ∷ [])
-    → GivesByDevice {A = A} (if can then Some Done else None) n (Plug spec) state health health (replies new Done)
-plugged_by A n spec state new health false can is = absurd (cc)
-plugged_by A n spec state new health true can is = record {
-  at = record { memory = ap (λ (s : SlotState). s.memory) is; devices = ap (λ (s : SlotState). s.devices) is };
-  is = ap (λ (s : SlotState). replies {A = A} s Done)
-      (is ∙ sym (ap (λ (s : SlotState). with_devices state s.memory s.devices) is));
-  image = refl;
-}
-
-pub plugged_given : (A : Type 0) (n : ℕ) (spec : DeviceSpec) (state new : SlotState) (health : Health)
-    → can_plug n spec state ≡ true
-    → new ≡ with_devices state state.memory (state.devices ++ fresh_device spec ∷ [])
-    → GivesDevice {A = A} n (Plug spec) state health health (replies new Done)
-plugged_given A n spec state new health can is =
-    plugged_by A n spec state new health (can_plug n spec state) can is
-
-refused_by : (A : Type 0) (n : ℕ) (spec : DeviceSpec) (state : SlotState) (health : Health) (can : Bool)
-    → can ≡ false
-    → GivesByDevice {A = A} (if can then Some Done else None) n (Plug spec) state health health
-    (replies state BadDevice)
-refused_by A n spec state health false can = record { alike = refl; image = refl }
-refused_by A n spec state health true can = absurd (cc)
-
-pub refused_given : (A : Type 0) (n : ℕ) (spec : DeviceSpec) (state : SlotState) (health : Health)
-    → can_plug n spec state ≡ false
-    → GivesDevice {A = A} n (Plug spec) state health health (replies state BadDevice)
-refused_given A n spec state health can = refused_by A n spec state health (can_plug n spec state) can
-
--- a device is plugged in that has the next number and isn't refused
-pub can_by : (n : ℕ) (spec : DeviceSpec) (state : SlotState) → n ≡ length state.devices
-    → refusal_of state.devices spec ≡ None → can_plug n spec state ≡ true
-can_by n spec state next free = rw (eq-eqb n (length state.devices) next, free) refl
-
-pub cannot_by_number : (n : ℕ) (spec : DeviceSpec) (state : SlotState) → n ≢ length state.devices
-    → can_plug n spec state ≡ false
-cannot_by_number n spec state other = rw (ne_eqb n (length state.devices) other) refl
-
-both_false : (b : Bool) → (b && false) ≡ false
-both_false true = refl
-both_false false = refl
-
-pub cannot_by_refusal : (n : ℕ) (spec : DeviceSpec) (state : SlotState) (why : AddRefusal)
-    → refusal_of state.devices spec ≡ Some why → can_plug n spec state ≡ false
-cannot_by_refusal n spec state why is = rw (is) (both_false (n == length state.devices))
 
 read_at : (A : Type 0) (n offset width value : ℕ) (state : SlotState) (health : Health) (found : Option DeviceState)
     → slice_get state.devices n ≡ found → option_map (register_of offset width) found ≡ Some value

@@ -1,5 +1,5 @@
 -- What an event of a slot comes to by who has its disk.
-use Rattle.std.proofs.Common.{◌≡◌, ◌≢◌, ℕ, zero, Bool, true, false, Option, Some, None, List, [], refl, sym, subst, append-nil}
+use Rattle.std.proofs.Common.{◌≡◌, ◌≢◌, ℕ, zero, Bool, true, false, Option, Some, None, List, [], refl, sym, ap, subst, append-nil}
 use Rattle.std.specs.Prelude.{◌&&◌, ◌||◌, if◌then◌else◌, IfErr, IsSome, OnErr, OnOk, Ok, Err, Result, is_some}
 use Rattle.chain.specs.declared.budget.Budget.{Budget}
 use Rattle.block_device.specs.Flights.{is_any}
@@ -17,17 +17,18 @@ use Rattle.board.specs.declared.pause.Turn.TheVariants.{Answered}
 use Rattle.board.specs.declared.reply.Reply.{Reply}
 use Rattle.board.specs.declared.reply.Reply.TheVariants.{Busy, NoMemory}
 use Rattle.board.specs.Backing.{HostDisk, tags_in}
-use Rattle.board.specs.Devices.{GivesDevice}
 use Rattle.board.specs.Hosting.{HostGives, HostOrGives, LooksAtQueue, OwnGives, has_part, is_block_task, must_wait, notifies_block, told_in, waits_now}
 use Rattle.board.specs.Image.{Health, sectors_of}
 use Rattle.board.specs.Outcome.{Outcome, does, replies}
 use Rattle.board.specs.Pausing.{Begins, BeginsOverImage, ComesTo, GoesOn, GoesOnBy, ServesTurn, TurnsTo, asked_over_image, is_hosts, readied}
 use Rattle.board.specs.declared.pause.Service.TheVariants as service
 use Rattle.board.specs.Machine.{action_at, task_at}
+use Rattle.board.specs.Quiet.{AnswersQuietly, DoesToDevice}
 use Rattle.board.specs.Restoring.{refusal_of, restore_reply, taken_up_reply}
 use Rattle.board.specs.Saved.{IsCauseOf, IsRestored}
 use Rattle.board.specs.declared.saved.RestoreFault.{RestoreFault}
 use Rattle.board.specs.declared.saved.RestoreRefusal.{RestoreRefusal}
+use Rattle.board.specs.declared.saved.RestoreRefusal.TheVariants as refusal
 use Rattle.board.specs.Slot.{BoardSlot, SlotState, state_of}
 use Rattle.device_list.specs.List.{are_at_work}
 use Rattle.board.proofs.Restoring.{restore_given, restore_waits}
@@ -36,7 +37,6 @@ use Rattle.mmio_window.specs.declared.action.Action.{Action}
 use Rattle.mmio_window.specs.declared.action.Action.TheVariants as action
 use Rattle.board.specs.Within.{BeginsWithin, BeginsWithinOverImage, TakesWithin, TurnWithin}
 use Rattle.board.specs.World.{MayGive, MayGiveBy, MayGiveOverImage}
-use Rattle.board.proofs.FurtherDevices.{device_given}
 use Rattle.board.proofs.OnHost.{passes_by, turns_as}
 use Rattle.board.proofs.Ways.{must_by}
 
@@ -103,13 +103,17 @@ input_passes A host bytes state =
     no_part {A = A} host (Input bytes) state refl (no_wait (is_any (tags_in state.host))) refl
 
 -- in what is done to a further device it has none
-pub device_passes : {A : Type 0} (n : ℕ) (what : DeviceEvent A) (old new : SlotState) (reply : Reply A)
-    (health : Health) → reply ≢ NoMemory → GivesDevice n what old health health (replies new reply)
-    → MayGive old (Device n what) health health (replies new reply)
-device_passes n what old new reply health answered h =
-    passes_by old.host old (Device n what) health (replies new reply)
-    (no_part old.host (Device n what) old refl (no_wait (is_any (tags_in old.host))) refl)
-    (device_given n what old new reply health answered h)
+pub device_quiet : {A : Type 0} (n : ℕ) (what : DeviceEvent A) (old new : BoardSlot) (reply : Reply A)
+    → reply ≢ NoMemory → DoesToDevice n what old new reply → AnswersQuietly old (Device n what) new reply
+device_quiet n what old new reply answered does = record {
+  given = λ image health filled.
+      passes_by old.host (state_of image old) (Device n what) health (replies (state_of image new) reply)
+      (no_part old.host (Device n what) (state_of image old) refl (no_wait (is_any (tags_in old.host))) refl)
+      (does.given image health);
+  extent = ap (λ (s : BoardSlot). s.extent) does.rest;
+  disturbed = ap (λ (s : BoardSlot). s.disturbed) does.rest;
+  answered = answered;
+}
 
 -- a service of the console goes on as over an image
 pub goes_on : (host : Option HostDisk) (which : Service) → which ≢ service.Block
@@ -333,6 +337,14 @@ restore_passes A image slot new bytes r said health rests idle is filled ok faul
     (passes_by state.host state (Restore bytes) health (replies (state_of image new) (taken_up_reply r))
     (no_part {A = A} state.host (Restore bytes) state refl (rw rests refl) refl)
     (restore_given A image slot new bytes r health idle filled ok fault kept))
+
+-- it takes no memory
+pub restore_answered : (A : Type 0) (said : Result (Unit {0}) RestoreRefusal)
+    → restore_reply {A = A} said ≢ NoMemory
+restore_answered A (Ok done) lacks = absurd (cc (lacks))
+restore_answered A (Err refusal.BadSlot) lacks = absurd (cc (lacks))
+restore_answered A (Err refusal.Busy) lacks = absurd (cc (lacks))
+restore_answered A (Err (refusal.Fault why)) lacks = absurd (cc (lacks))
 
 -- while something is in flight of any disk it waits
 pub restore_busy : (A : Type 0) (state : SlotState) (bytes : List ℕ) (health : Health)

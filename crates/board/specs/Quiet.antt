@@ -1,14 +1,40 @@
 -- An event that leaves the image alone and puts nothing out.
-use Rattle.std.specs.Prelude.{ℕ, List}
+use Rattle.std.specs.Prelude.{◌≡◌, ◌≢◌, ℕ, List}
+use Rattle.guest_memory.specs.Memory.{SameRange}
+use Rattle.board.specs.declared.event.DeviceEvent.{DeviceEvent}
 use Rattle.board.specs.declared.event.EventKind.{EventKind}
+use Rattle.board.specs.declared.event.EventKind.TheVariants.{Device}
 use Rattle.board.specs.declared.reply.Reply.{Reply}
-use Rattle.board.specs.Image.{Health}
+use Rattle.board.specs.declared.reply.Reply.TheVariants.{BadRange, BadSlot, NoMemory}
+use Rattle.board.specs.Devices.{TakesMemoryFor}
+use Rattle.board.specs.Image.{Health, sectors_of}
 use Rattle.board.specs.Outcome.{replies}
 use Rattle.board.specs.Slot.{BoardSlot, state_of}
-use Rattle.board.specs.World.{MayGiveOverImage}
+use Rattle.board.specs.World.{MayGive, MayGiveOverImage}
 
 -- What a slot gives for it may be given over an image, whatever that has.
 abbrev pub GivesQuietly : {A : Type 0} → BoardSlot → EventKind A → BoardSlot → Reply A → Type 0
 GivesQuietly old what new reply =
     (image : List ℕ) (health : Health) →
     MayGiveOverImage (state_of image old) what health health (replies (state_of image new) reply)
+
+-- A slot answers it so, whoever has its disk, and for no want of memory. Where the disk lies stays, and no refusal is
+-- noted.
+pub record AnswersQuietly {A : Type 0} (old : BoardSlot) (what : EventKind A) (new : BoardSlot) (reply : Reply A)
+    : Type 0 where
+  pub given : (image : List ℕ) (health : Health) → sectors_of (state_of image old).extent ≡ old.extent.count →
+      MayGive (state_of image old) what health health (replies (state_of image new) reply)
+  pub extent : new.extent ≡ old.extent
+  pub disturbed : new.disturbed ≡ old.disturbed
+  pub answered : reply ≢ NoMemory
+
+-- What comes of this that is done to further device n of a slot whose disk is of an image. Only its devices change, and
+-- bytes of its memory; and where memory may be wanting it says so.
+pub record DoesToDevice {A : Type 0} (n : ℕ) (what : DeviceEvent A) (old new : BoardSlot) (reply : Reply A)
+    : Type 0 where
+  pub given : GivesQuietly old (Device n what) new reply
+  pub rest : new ≡ record old { memory = new.memory; devices = new.devices }
+  pub range : SameRange old.memory new.memory
+  pub there : reply ≢ BadSlot
+  pub in_range : reply ≢ BadRange
+  pub no_memory : reply ≡ NoMemory → (image : List ℕ) → TakesMemoryFor n what (state_of image old)

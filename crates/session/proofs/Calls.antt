@@ -18,7 +18,7 @@ use Rattle.session.specs.declared.refusal.Refusal.TheVariants as refusal
 use Rattle.session.specs.Answering.{RefusalMeans}
 use Rattle.session.specs.Pausing.{ComesTo, IsCall}
 use Rattle.session.specs.Session.{IsIdle, IsStep, SessionState, world_of}
-use Rattle.session.proofs.Places.{set_same}
+use Rattle.board.proofs.Lists.{set_same}
 
 -- ---- a call of a slot that is busy
 

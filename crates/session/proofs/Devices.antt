@@ -1,12 +1,11 @@
 -- What is done to a further device: what it is answered, and the step and the call of its event.
 use Rattle.std.proofs.Common.{◌≡◌, ◌≢◌, ◌↔◌, ◌⊎◌, inl, inr, ℕ, ◌<◌, ◌≤◌, Bool, true, false, List, [], length, Option, Some, None, refl, sym, ◌∙◌, ap, subst, arith}
-use Rattle.std.specs.Prelude.{◌&&◌, if◌then◌else◌, is_some, nat_eq, nat_lt, unwrap_or, IfOk, IsSome, IsSomeAnd, IsTrue, MatchOption, Result, Ok, Err}
+use Rattle.std.specs.Prelude.{◌&&◌, if◌then◌else◌, is_some, nat_lt, unwrap_or, IfOk, IsSome, IsSomeAnd, IsTrue, MatchOption, Result, Ok, Err}
 use Rattle.std.specs.List.{slice_get}
 use Rattle.std.specs.Option.{option_and_then, option_map, option_map_or}
 use Rattle.std.proofs.lemmas.Bool.Decides.{nat_tests}
-use Rattle.std.proofs.lemmas.List.{length-map, same_lists}
-use Rattle.std.proofs.lemmas.Option.{same_Some, slice_get_cases, slice_get_within, unwrap_or-slice_get}
-use Rattle.chain.specs.declared.budget.Budget.{Budget}
+use Rattle.std.proofs.lemmas.List.{length-map}
+use Rattle.std.proofs.lemmas.Option.{same_Some, slice_get_cases, slice_get_within}
 use Rattle.block_device.specs.Flights.{is_any}
 use Rattle.network_device.specs.declared.refusal.FrameRefusal.TheVariants.{Full}
 use Rattle.device_list.specs.declared.refusal.ReceiveRefusal.{ReceiveRefusal}
@@ -21,7 +20,6 @@ use Rattle.block_device.specs.declared.operation.HostEvent.{HostEvent}
 use Rattle.board.specs.declared.event.DeviceEvent.{DeviceEvent}
 use Rattle.board.specs.declared.event.DeviceEvent.TheVariants.{Plug, Read, Write, Supply, Receive, TakeSent, SetLink, Resize, Host}
 use Rattle.board.specs.declared.event.EventKind.TheVariants.{Device}
-use Rattle.board.specs.declared.pause.Pause.{Pause}
 use Rattle.board.specs.declared.reply.Record.{Record}
 use Rattle.board.specs.declared.reply.Reply.{Reply}
 use Rattle.board.specs.declared.reply.Reply.TheVariants.{Value, Done, Bytes, Took, BadSlot, BadRange, BadDevice, NoMemory}
@@ -34,18 +32,16 @@ use Rattle.board.specs.Outcome.{Outcome, replies}
 use Rattle.board.specs.Slot.{BoardSlot, SlotState, state_of}
 use Rattle.board.specs.World.{Answers, KeepsOthers, MayGive, MayGiveBy, MayGiveOverImage, MissingStep, SlotStep, World, extents_of}
 use Rattle.board.proofs.Replies.{given_replies}
-use Rattle.output_queue.specs.Waiting.{Waiting}
 use Rattle.session.specs.declared.response.Response.{Response}
 use Rattle.session.specs.declared.response.Response.TheVariants.{Answered, More, Busy, Idle}
 use Rattle.session.specs.declared.refusal.Refusal.TheVariants as refusal
-use Rattle.session.specs.Answering.{IsDoneOrRefusing, IsReading, IsServing, IsTakenWhole, IsTaking, Means, RefusalMeans, Suits, SuitsCall, served_response, taken_response}
+use Rattle.session.specs.Answering.{IsDoneOrRefusing, IsReading, IsServing, IsTakenWhole, IsTaking, Means, RefusalMeans, Suits, SuitsCall, served_response}
 use Rattle.session.specs.declared.progress.Progress.{Progress}
 use Rattle.session.specs.declared.progress.Progress.TheVariants as progress
 use Rattle.session.specs.declared.refusal.Refusal.{Refusal}
-use Rattle.session.specs.Session.{IsStep, SessionState, output_of, world_of}
+use Rattle.session.specs.Session.{IsStep, SessionState, world_of}
 use Rattle.session.proofs.Parts.{given}
-use Rattle.session.proofs.Ranges.{behind}
-use Rattle.session.proofs.Steps.{as_many, session}
+use Rattle.session.proofs.Slots.{slots_step}
 use Rattle.session.proofs.Suiting.{suits}
 use Rattle.session.proofs.Unchanged.{missing as past_step, unchanged}
 
@@ -232,27 +228,17 @@ idle_exact {A} n word state before after outcome h =
 
 -- ---- which replies there never are
 
-never_missing : {A : Type 0} (what : DeviceEvent A) → MayReplyDevice what BadSlot → ⊥
-never_missing (Plug spec) may = may
-never_missing (Read offset width) may = may
-never_missing (Write offset width value) may = may
-never_missing (Supply bytes) may = may
-never_missing (Receive frame) may = may
-never_missing TakeSent may = may
-never_missing (SetLink up) may = may
-never_missing (Resize cols rows) may = may
-never_missing (Host said) may = may
-
-never_range : {A : Type 0} (what : DeviceEvent A) → MayReplyDevice what BadRange → ⊥
-never_range (Plug spec) may = may
-never_range (Read offset width) may = may
-never_range (Write offset width value) may = may
-never_range (Supply bytes) may = may
-never_range (Receive frame) may = may
-never_range TakeSent may = may
-never_range (SetLink up) may = may
-never_range (Resize cols rows) may = may
-never_range (Host said) may = may
+never : {A : Type 0} (what : DeviceEvent A)
+    → (MayReplyDevice what BadSlot → ⊥) × (MayReplyDevice what BadRange → ⊥)
+never (Plug spec) = (λ may. may, λ may. may)
+never (Read offset width) = (λ may. may, λ may. may)
+never (Write offset width value) = (λ may. may, λ may. may)
+never (Supply bytes) = (λ may. may, λ may. may)
+never (Receive frame) = (λ may. may, λ may. may)
+never TakeSent = (λ may. may, λ may. may)
+never (SetLink up) = (λ may. may, λ may. may)
+never (Resize cols rows) = (λ may. may, λ may. may)
+never (Host said) = (λ may. may, λ may. may)
 
 -- ---- which responses there may be
 
@@ -353,31 +339,11 @@ module _ (A : Type 0) (old new : World) (slot n : ℕ) (what : DeviceEvent A) (r
 
 -- ---- what the board answers by a slice is the session's step
 
-same_session : (slots slots' : List BoardSlot) (image image' : List ℕ) (dirty dirty' : Bool)
-    (outputs outputs' : List Waiting) (paused paused' : List (Option Pause)) (budget budget' : Budget)
-    → slots' ≡ slots → image' ≡ image → dirty' ≡ dirty → outputs' ≡ outputs → paused' ≡ paused
-    → budget' ≡ budget
-    → session slots' image' dirty' outputs' paused' budget' ≡ session slots image dirty outputs paused budget
-same_session slots slots' image image' dirty dirty' outputs outputs' paused paused' budget budget' p q r s t u =
-    rw (p, q, r, s, t, u) refl
-
--- where there is no such slot, none changed
-slots_stay : (old new : List BoardSlot) (slot : ℕ) → KeepsOthers slot old new → extents_of new ≡ extents_of old
-    → length old ≤ slot → new ≡ old
-slots_stay old new slot others extents past =
-    same_lists new old (as_many old new extents)
-    (λ k d fits. sym (unwrap_or-slice_get new k d)
-    ∙ (ap (λ (o : Option BoardSlot). unwrap_or o d) (others k (differs k fits)) ∙ unwrap_or-slice_get old k d))
-  where
-    differs : (k : ℕ) → k < length new → k ≢ slot
-    differs k fits is = absurd (omega (arith, as_many old new extents, past, fits, is))
-
 module _ (A : Type 0) (old new : SessionState) (slot n : ℕ) (what : DeviceEvent A) (reply : Reply A)
     (answers : Answers {A = A} (world_of old) (record { slot = slot; what = Device n what }) reply [] []
     (world_of new)) (others : KeepsOthers slot old.slots new.slots)
-    (extents : extents_of new.slots ≡ extents_of old.slots) (image : new.image ≡ old.image)
-    (dirty : new.dirty ≡ old.dirty) (outputs : new.outputs ≡ old.outputs) (paused : new.paused ≡ old.paused)
-    (budget : new.budget ≡ old.budget) (found : reply ≢ NoMemory) where
+    (extents : extents_of new.slots ≡ extents_of old.slots) (rest : new ≡ record old { slots = new.slots })
+    (found : reply ≢ NoMemory) where
   abbrev Says : Type 0
   Says = (reply ≡ BadSlot) ↔ (length old.slots ≤ slot)
 
@@ -394,7 +360,7 @@ module _ (A : Type 0) (old new : SessionState) (slot n : ℕ) (what : DeviceEven
       let fits : slot < length old.slots =
       subst (λ m. slot < m) (length-map old.slots (state_of old.image))
       (slice_get_within (world_of old).slots slot state is) in (
-        λ told. absurd (never_missing what (subst (λ (r : Reply A). MayReplyDevice what r)
+        λ told. absurd ((never what).0 (subst (λ (r : Reply A). MayReplyDevice what r)
             (sym (ap (λ (w : Record A). w.reply) step.recorded) ∙ answers.replied ∙ told)
             (given_replies state (Device n what) _ _ step.outcome step.given))),
         λ far. absurd (omega (arith, fits, far)),
@@ -404,28 +370,12 @@ module _ (A : Type 0) (old new : SessionState) (slot n : ℕ) (what : DeviceEven
   missing = missing_at (slice_get (world_of old).slots slot) refl answers.step
 
   in_range : reply ≡ BadRange → ⊥
-  in_range is = never_range what (subst (λ (r : Reply A). Suits (Device n what) r) is (suits answers))
+  in_range is = (never what).1 (subst (λ (r : Reply A). Suits (Device n what) r) is (suits answers))
 
   pub step : IsStep {A = A} old (record { slot = slot; what = Device n what }) reply new
-  step = record {
-    answers = rw outputs (behind (output_of slot old) answers);
-    others = others;
-    outputs = λ other differ. rw outputs refl;
-    extents = extents;
-    size = ap length image;
-    limits = λ other. rw outputs refl;
-    paused = paused;
-    budget = budget;
-    within = λ one after here there. tt;
-    refused = λ is. absurd (found is);
-    bad_slot = missing;
-    bad_slot_keeps = λ is.
-        same_session old.slots new.slots old.image new.image old.dirty new.dirty old.outputs new.outputs
-        old.paused new.paused old.budget new.budget
-        (slots_stay old.slots new.slots slot others extents (missing.0 is)) image dirty outputs paused budget;
-    bad_range_keeps = λ is. absurd (in_range is);
-    no_memory = λ is. absurd (found is);
-  }
+  step =
+      slots_step old new (record { slot = slot; what = Device n what }) reply answers others extents rest
+      (λ limit found after waiting left reply. tt) found in_range missing
 
 -- ---- a frame is taken whole, or there is no room for it
 
@@ -442,16 +392,6 @@ taken_whole {A} n frame reply (inl missing) = subst (λ (r : Reply A). IsTakenWh
 taken_whole {A} n frame reply (inr (state, so)) =
     subst (λ (r : Reply A). IsTakenWhole frame r) (sym so)
     (whole_by A frame (receive_refusal frame (card_at n state.devices)))
-
-pub told_by_test : (A : Type 0) (frame : List ℕ) (count : ℕ) (whole : Bool) → nat_eq count (length frame) ≡ whole
-    → (count ≡ length frame) ⊎ (count ≡ 0)
-    → ◌≡◌ {A = Response A} (Answered (Took count)) (taken_response frame whole)
-told_by_test A frame count true is either =
-    let same : count ≡ length frame = grind (arith, nat_tests, is) in
-    let answer : ℕ → Response A = λ m. Answered (Took m) in ap answer same
-told_by_test A frame count false is (inl same) = absurd (grind (arith, nat_tests, is, same))
-told_by_test A frame count false is (inr none) =
-    let answer : ℕ → Response A = λ m. Answered (Took m) in ap answer none
 
 -- ---- what was sent is taken away
 

@@ -45,7 +45,7 @@ use Rattle.session.specs.declared.refusal.Refusal.TheVariants as refusal
 use Rattle.session.specs.declared.response.Response.{Response}
 use Rattle.session.specs.declared.response.Response.TheVariants.{Answered, More, Busy, Idle}
 use Rattle.session.specs.declared.typed.Typed.{Typed}
-use Rattle.session.specs.Answering.{Means, RefusalMeans, frame_response, served_response, taken_response, typed_by, typed_response}
+use Rattle.session.specs.Answering.{Means, RefusalMeans, Suits, frame_response, served_response, taken_response, typed_by, typed_response}
 use Rattle.session.specs.Devices.{TakesNothing, sent_at}
 use Rattle.session.specs.Disks.{DiskHasNothing}
 use Rattle.session.specs.Operations.{HasNothing, HoldsUp, IsSpare}
@@ -54,10 +54,10 @@ use Rattle.session.specs.Pausing.{ComesTo, IsBegun, IsEventCall, IsToldCall, IsW
 use Rattle.session.specs.Session.{AnswersInPlace, IsIdle, IsOutside, IsStep, SessionState, world_of}
 use Rattle.session.proofs.Access.{found_at}
 use Rattle.session.proofs.Calls.{call_of_step, called_busy}
-use Rattle.session.proofs.Devices.{bad_exact, idle_exact, step, taken_away, waiting_gives}
+use Rattle.session.proofs.Devices.{bad_exact, idle_exact, never_lacks, step, taken_away, waiting_gives}
 use Rattle.session.proofs.Parts.{asks_nothing}
 use Rattle.session.proofs.Steps.{lacks_puts}
-use Rattle.session.proofs.Suiting.{asks_none, never_busy, never_idle, never_paused}
+use Rattle.session.proofs.Suiting.{asks_none, never_busy, never_idle, never_paused, suits}
 use Rattle.session.proofs.Unchanged.{shown_at}
 
 -- ---- what waits for what is in flight, and what finds nothing in flight
@@ -516,6 +516,34 @@ refuses {A} {T} old new slot what told wanted r pure means many call =
       no_room = λ is any. says.no_room (same ∙ ap (λ (x : Result T Refusal). refused x) is) any;
     }
 
+-- and what is told of the call
+pub told_call : {A T : Type 0} (old new : SessionState) (slot : ℕ) (what : EventKind A) (told : Response A)
+    (wanted : T → Response A) (r : Result T Refusal) → ((value : T) → refusal_of (wanted value) ≡ None)
+    → Means wanted r told → length old.paused ≡ length old.slots → IsEventCall old slot what told new
+    → IsToldCall old slot what (Means wanted r) new × Refuses old slot what r
+told_call old new slot what told wanted r pure means many call = (
+  record { response = told; call = call; told = means },
+  refuses old new slot what told wanted r pure means many call,
+)
+
+-- a service of the slot is paused: the call is busy
+pub busy_call : {A : Type 0} (old : SessionState) (slot : ℕ) (what : EventKind A) → ¬ IsIdle slot old
+    → IsEventCall old slot what Busy old
+busy_call old slot what busy =
+    record { turn = called_busy old (record { slot = slot; what = what }) busy; whole = tt }
+
+-- else it is a step, where its event asks for no service
+pub step_call : {A : Type 0} (old new : SessionState) (slot : ℕ) (what : EventKind A) (answer : Reply A)
+    → length old.paused ≡ length old.slots → IsIdle slot old
+    → ((state : SlotState) → asked_over_image what state ≡ None)
+    → IsStep old (record { slot = slot; what = what }) answer new
+    → IsEventCall old slot what (Answered answer) new
+step_call old new slot what answer many idle silent step = record {
+  turn = call_of_step old new (record { slot = slot; what = what }) answer idle many
+      (λ state. asks_nothing what state (silent state)) step;
+  whole = step;
+}
+
 pub served_pure : (A : Type 0) (came : Progress) → refusal_of {A = A} (served_response came) ≡ None
 served_pure A progress.Done = refl
 served_pure A progress.More = refl
@@ -701,37 +729,55 @@ device_refuses {A} {T} old new slot n what response wanted r pure means many cal
           (device_bad old new slot n what many response call);
     }
 
+-- and what is told of the call
+pub device_told : {A T : Type 0} (old new : SessionState) (slot n : ℕ) (what : DeviceEvent A)
+    (response : Response A) (wanted : T → Response A) (r : Result T Refusal)
+    → ((value : T) → refusal_of (wanted value) ≡ None) → Means wanted r response
+    → length old.paused ≡ length old.slots → IsEventCall old slot (Device n what) response new
+    → IsToldCall old slot (Device n what) (Means wanted r) new × DeviceRefuses old slot n what r
+device_told old new slot n what response wanted r pure means many call = (
+  record { response = response; call = call; told = means },
+  device_refuses old new slot n what response wanted r pure means many call,
+)
+
 -- a service of the slot is paused: the call is busy
 pub device_busy : {A T : Type 0} (old : SessionState) (slot n : ℕ) (what : DeviceEvent A)
     (wanted : T → Response A) → ((value : T) → refusal_of (wanted value) ≡ None)
     → length old.paused ≡ length old.slots → ¬ IsIdle slot old
     → IsToldCall old slot (Device n what) (Means wanted (Err refusal.Busy)) old
     × DeviceRefuses {A = A} {T = T} old slot n what (Err refusal.Busy)
-device_busy {A} {T} old slot n what wanted pure many busy =
-    let call : IsEventCall {A = A} old slot (Device n what) Busy old = record {
-      turn = called_busy old (record { slot = slot; what = Device n what }) busy;
-      whole = tt;
-    } in (
-      record { response = Busy; call = call; told = inl refl },
-      device_refuses old old slot n what Busy wanted (Err refusal.Busy) pure (inl refl) many call,
-    )
+device_busy {A} old slot n what wanted pure many busy =
+    device_told {A = A} old old slot n what Busy wanted (Err refusal.Busy) pure (inl refl) many
+    (busy_call old slot (Device n what) busy)
 
--- it is as the board answers by a slice
-module _ {A T : Type 0} (old new : SessionState) (slot n : ℕ) (what : DeviceEvent A) (wanted : T → Response A)
-    (pure : (value : T) → refusal_of (wanted value) ≡ None) (many : length old.paused ≡ length old.slots)
-    (idle : IsIdle slot old) where
-  pub stepped_call : (answer : Reply A) (r : Result T Refusal) → Means wanted r (Answered answer)
-      → IsStep old (record { slot = slot; what = Device n what }) answer new
-      → IsToldCall old slot (Device n what) (Means wanted r) new × DeviceRefuses old slot n what r
-  stepped_call answer r means step =
-      let call : IsEventCall {A = A} old slot (Device n what) (Answered answer) new = record {
-        turn = call_of_step old new (record { slot = slot; what = Device n what }) answer idle many
-            (λ state. asks_nothing {A = A} (Device n what) state refl) step;
-        whole = step;
-      } in (
-        record { response = Answered answer; call = call; told = means },
-        device_refuses old new slot n what (Answered answer) wanted r pure means many call,
-      )
+-- it is a step
+pub stepped_call : {A T : Type 0} (old new : SessionState) (slot n : ℕ) (what : DeviceEvent A)
+    (wanted : T → Response A) → ((value : T) → refusal_of (wanted value) ≡ None)
+    → length old.paused ≡ length old.slots → IsIdle slot old → (answer : Reply A) (r : Result T Refusal)
+    → Means wanted r (Answered answer) → IsStep old (record { slot = slot; what = Device n what }) answer new
+    → IsToldCall old slot (Device n what) (Means wanted r) new × DeviceRefuses old slot n what r
+stepped_call old new slot n what wanted pure many idle answer r means step =
+    device_told old new slot n what (Answered answer) wanted r pure means many
+    (step_call old new slot (Device n what) answer many idle (λ state. refl) step)
+
+-- as the board answers it by a slice, which takes no memory
+pub sliced_call : {A T : Type 0} {inside old : SessionState} → inside ≡ old → (slots : List BoardSlot) (slot n : ℕ)
+    (what : DeviceEvent A) (wanted : T → Response A) → ((value : T) → refusal_of (wanted value) ≡ None)
+    → length inside.paused ≡ length inside.slots → IsIdle slot old → (answer : Reply A) (r : Result T Refusal)
+    → Means wanted r (Answered answer)
+    → Answers {A = A} (world_of inside) (record { slot = slot; what = Device n what }) answer [] []
+    (world_of (record inside { slots = slots }))
+    → KeepsOthers slot inside.slots slots → extents_of slots ≡ extents_of inside.slots
+    → (Suits {A = A} (Device n what) reply.NoMemory → ⊥)
+    → IsToldCall old slot (Device n what) (Means wanted r) (record inside { slots = slots })
+    × DeviceRefuses old slot n what r
+sliced_call {A} {inside = inside} view slots slot n what wanted pure many idle answer r means answers others extents
+    never =
+    let new : SessionState = record inside { slots = slots } in
+    rw (← view)
+    (stepped_call inside new slot n what wanted pure many (rw (← view) at idle) answer r means
+    (step A inside new slot n what answer answers others extents refl
+    (never_lacks answer n what (suits answers) never)))
 
 -- what was sent is taken away
 pub record SentCall (A : Type 0) (old new : SessionState) (slot n : ℕ) (taken : Bool) : Type 0 where
@@ -748,9 +794,8 @@ pub sent_call : (A : Type 0) (old new : SessionState) (slot n : ℕ) (taken : Bo
     → Answers {A = A} (world_of old) (record { slot = slot; what = Device n TakeSent })
     (taken_reply n found.devices) [] [] (world_of new))
     → KeepsOthers slot old.slots new.slots → extents_of new.slots ≡ extents_of old.slots
-    → new.image ≡ old.image → new.dirty ≡ old.dirty → new.outputs ≡ old.outputs → new.paused ≡ old.paused
-    → new.budget ≡ old.budget → SentCall A old new slot n taken
-sent_call A old new slot n taken many idle value answers others extents image dirty outputs paused budget =
+    → new ≡ record old { slots = new.slots } → SentCall A old new slot n taken
+sent_call A old new slot n taken many idle value answers others extents rest =
     by_slot (slice_get old.slots slot) refl value
   where
     by_slot : (o : Option BoardSlot) → slice_get old.slots slot ≡ o
@@ -761,7 +806,7 @@ sent_call A old new slot n taken many idle value answers others extents image di
         let same : sent_at slot n old.slots ≡ sent_by n found.devices =
         ap (option_and_then (λ (f : BoardSlot). sent_by n f.devices)) here in
         let stepped = step A old new slot n TakeSent (taken_reply n found.devices) (answers found here) others
-        extents image dirty outputs paused budget (λ lacks. absurd (cc (away.reply, lacks))) in
+        extents rest (λ lacks. absurd (cc (away.reply, lacks))) in
         let means : Means {A = A} (frame_response (sent_at slot n old.slots)) (Ok taken)
         (Answered (taken_reply n found.devices)) =
         ap (λ (r : Reply A). Answered r) (away.reply ∙ ap (λ o. reply.Bytes (unwrap_or o [])) (sym same)) in

@@ -29,7 +29,7 @@ use Rattle.session.specs.Pausing.{ComesTo, IsWhole}
 use Rattle.session.specs.Session.{IsKept, IsStep, SessionState, output_of, waiting_at, world_of}
 use Rattle.session.proofs.Asking.{going_on_keeps, pausing_keeps, seen_at}
 use Rattle.session.proofs.PacedCourses.{by_pause}
-use Rattle.session.proofs.Places.{set_same}
+use Rattle.board.proofs.Lists.{set_same}
 use Rattle.session.proofs.Suiting.{never_busy, never_idle}
 use Rattle.session.proofs.Waiting.{others_wait, same_outlet}
 

@@ -2,11 +2,11 @@ pub mod Midway
 pub mod PacedAlone
 pub mod Access
 pub mod Noted
-pub mod Places
 pub mod Suiting
 pub mod Waiting
 pub mod Unchanged
 pub mod Steps
+pub mod Slots
 pub mod Ranges
 pub mod Calls
 pub mod Quiet

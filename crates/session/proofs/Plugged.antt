@@ -1,9 +1,9 @@
 -- The guests' further devices are plugged into their slots, one after another.
-use Rattle.std.proofs.Common.{◌≡◌, ℕ, zero, suc, ◌+◌, ◌<◌, Bool, true, false, List, [], ◌∷◌, ◌++◌, length, map, take, drop, get_or, Option, Some, None, refl, sym, ◌∙◌, ap, subst, arith}
+use Rattle.std.proofs.Common.{◌≡◌, ℕ, zero, suc, ◌+◌, ◌<◌, Bool, true, false, List, [], ◌∷◌, ◌++◌, length, map, take, drop, Option, Some, None, refl, sym, ◌∙◌, ap, subst, arith}
 use Rattle.std.specs.Prelude.{◌||◌, slice_set, nat_le, IfNone, IfSome, IsSomeAnd}
 use Rattle.std.specs.List.{AllByRecursion, list_any, slice_get}
 use Rattle.std.proofs.lemmas.Bool.Decides.{nat_tests}
-use Rattle.std.proofs.lemmas.List.{append-nil, drop_more, append_assoc, length-append, length-map, map-append, nil_from_length, set-set}
+use Rattle.std.proofs.lemmas.List.{append_assoc, length-append, length-map, map-append, nil_from_length, set-set}
 use Rattle.std.proofs.lemmas.Option.{same_Some, slice_get_within}
 use Rattle.device_list.specs.declared.spec.DeviceSpec.{DeviceSpec}
 use Rattle.device_list.specs.Device.{DeviceState, fresh_device}
@@ -137,11 +137,6 @@ next_plugged guests slots now last i guest bare here is gets =
 
 -- ---- the next place
 
-pub next_place : {X : Type 0} (places : List X) (k : ℕ) (place : X) → k < length places
-    → place ≡ get_or places k place → drop k places ≡ place ∷ drop (k + 1) places
-next_place places k place few is =
-    drop_more places k place few ∙ ap (λ p. p ∷ drop (k + 1) places) (sym is)
-
 both_false : (a b : Bool) → (a || b) ≡ false → (a ≡ false) × (b ≡ false)
 both_false true b is = absurd (cc (is))
 both_false false b is = (refl, is)
@@ -217,12 +212,3 @@ module _ (places : List (Option DeviceSpec)) (slot k : ℕ) (old new : List Boar
         ∙ ap (λ (ds : List DeviceState). slice_set old slot (record h.before { devices = ds }))
         (sym (map-append fresh_device h.done (spec ∷ [])));
   }
-
-  -- no further place has one
-  pub all_plugged : before_none (drop k places) ≡ [] → GetsDevices slot (before_none places) old new
-  all_plugged none = λ found there.
-      let same : h.before ≡ found = same_Some h.before found (sym h.there ∙ there) in
-      let all : h.done ≡ before_none places =
-      sym (append-nil h.done) ∙ sym (ap (λ some. h.done ++ some) none) ∙ h.split in
-      h.is ∙ ap (λ specs. slice_set old slot (with_fresh specs h.before)) all
-      ∙ ap (λ (b : BoardSlot). slice_set old slot (with_fresh (before_none places) b)) same

@@ -25,7 +25,7 @@ use Rattle.session.specs.Pacing.{paused_by, response_to}
 use Rattle.session.specs.Answering.{SuitsCall}
 use Rattle.session.specs.Pausing.{IsEventCall}
 use Rattle.session.specs.Session.{SessionState}
-use Rattle.session.proofs.Places.{set_same}
+use Rattle.board.proofs.Lists.{set_same}
 use Rattle.session.proofs.Steps.{called, shown, suits_call, whole}
 
 quiet_by : {A : Type 0} (asks : Option Pause) (limit : ℕ) (what : EventKind A) (budget : Budget)

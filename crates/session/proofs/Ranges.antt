@@ -1,5 +1,5 @@
 -- What becomes of a range of a guest's memory, as a step of the session.
-use Rattle.std.proofs.Common.{◌≡◌, inl, ℕ, ◌<◌, true, false, List, [], length, Option, Some, None, refl, sym, ap, append-nil, arith}
+use Rattle.std.proofs.Common.{◌≡◌, inl, ℕ, ◌<◌, true, false, List, [], length, Option, Some, None, refl, ap, arith}
 use Rattle.std.specs.Prelude.{nat_lt, if◌then◌else◌, IsSomeAnd}
 use Rattle.std.specs.List.{slice_get}
 use Rattle.std.specs.Option.{option_map}
@@ -7,19 +7,18 @@ use Rattle.std.proofs.lemmas.Option.{slice_get_within, slice_get-map, same_Some}
 use Rattle.board.specs.declared.event.SlotWindow.{SlotWindow}
 use Rattle.guest_memory.specs.Memory.{Inside, is_inside, part_of, stored}
 use Rattle.guest_memory.proofs.Ranges.{is_inside-tells}
-use Rattle.board.specs.declared.event.Event.{Event}
 use Rattle.board.specs.declared.event.EventKind.TheVariants.{MemRead, MemWrite, Read}
-use Rattle.board.specs.declared.reply.Reply.{Reply}
 use Rattle.board.specs.declared.reply.Reply.TheVariants.{Done, Bytes, BadSlot, BadRange, Value}
 use Rattle.board.specs.Machine.{register}
 use Rattle.board.specs.Outcome.{replies}
 use Rattle.board.specs.Slot.{BoardSlot, state_of}
-use Rattle.board.specs.World.{World, Answers}
+use Rattle.board.specs.World.{Answers}
 use Rattle.board.proofs.Blocks.{read_given}
 use Rattle.board.proofs.Seats.{extents_of-set, others_kept}
 use Rattle.session.specs.Session.{IsStep, SessionState, with_memory, world_of}
 use Rattle.session.proofs.Parts.{given}
-use Rattle.session.proofs.Places.{not_true}
+use Rattle.session.proofs.Slots.{slots_step}
+use Rattle.board.proofs.Reading.{not_true}
 use Rattle.session.proofs.Unchanged.{refused_at, unchanged}
 
 held : (found : BoardSlot) (addr n : ℕ) → Inside found.memory addr n → is_inside found.memory addr n ≡ true
@@ -120,16 +119,6 @@ not_written A s slot addr bytes outside =
       failures = refl;
     }))) (λ limit found after waiting left reply. tt)
 
--- a step that put nothing out keeps whatever stands in the output
-pub behind : {A : Type 0} {old : World} {event : Event A} {reply : Reply A} {new : World} (output : List ℕ)
-    → Answers old event reply [] [] new → Answers old event reply output output new
-behind {A} {old} {event} {reply} {new} output answers = record {
-  written = answers.written;
-  step = answers.step;
-  replied = answers.replied;
-  appended = rw (← answers.appended) (sym (append-nil output));
-}
-
 -- what was written to it is the step of that write
 pub was_written : (A : Type 0) (old : SessionState) (slot addr : ℕ) (found : BoardSlot) (bytes : List ℕ)
     → slice_get old.slots slot ≡ Some found
@@ -139,19 +128,8 @@ pub was_written : (A : Type 0) (old : SessionState) (slot addr : ℕ) (found : B
     (with_memory slot found (stored found.memory addr bytes) old)
 was_written A old slot addr found bytes here answers =
     let fits : slot < length old.slots = slice_get_within old.slots slot found here in
-    record {
-      answers = behind _ answers;
-      others = λ other differ. others_kept old.slots slot _ other differ;
-      outputs = λ other differ. refl;
-      extents = extents_of-set old.slots slot found _ here refl;
-      size = refl;
-      limits = λ slot. refl;
-      paused = refl;
-      budget = refl;
-      within = λ found after here there. tt;
-      refused = λ is. absurd (cc);
-      bad_slot = (λ is. absurd (cc), λ past. absurd (omega arith));
-      bad_slot_keeps = λ is. absurd (cc);
-      bad_range_keeps = λ is. absurd (cc);
-      no_memory = λ is. absurd (cc);
-    }
+    slots_step old (with_memory slot found (stored found.memory addr bytes) old)
+    (record { slot = slot; what = MemWrite addr bytes }) Done answers
+    (λ other differ. others_kept old.slots slot _ other differ) (extents_of-set old.slots slot found _ here refl) refl
+    (λ limit found after waiting left reply. tt) (λ is. absurd (cc)) (λ is. absurd (cc))
+    (λ is. absurd (cc), λ past. absurd (omega arith))

@@ -41,7 +41,7 @@ use Rattle.session.specs.Pacing.{GoOn, Handle, call_of, paused_by, response_to, 
 use Rattle.session.specs.Answering.{SuitsCall, SuitsTurn}
 use Rattle.session.specs.Pausing.{IsCall, IsTurn, IsWhole, IsWholeCall}
 use Rattle.session.specs.Session.{AnswersInPlace, BeginsInPlace, IsStep, SessionState, limit_of, output_of, world_of}
-use Rattle.session.proofs.Places.{set_same}
+use Rattle.board.proofs.Lists.{set_same}
 use Rattle.session.proofs.Suiting.{paused_suits, silent, suits}
 use Rattle.session.proofs.Unchanged.{missing}
 use Rattle.session.proofs.Waiting.{limits_set, same_outlet, set_there}

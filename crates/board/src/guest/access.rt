@@ -1,6 +1,6 @@
 //! What an embedder reaches of a guest between its events.
 
-ghost use Rattle.std.specs.Prelude.{◌≡◌, ◌≢◌, ◌⊎◌, ◌++◌, ◌∷◌, ℕ, List, [], None, IfErr, IfOk, IfSome, OnErr, OnOk, get_or, length};
+ghost use Rattle.std.specs.Prelude.{◌≡◌, ◌⊎◌, ◌++◌, ◌∷◌, ℕ, List, [], None, IfErr, IfOk, IfSome, OnErr, OnOk, get_or, length};
 ghost use Rattle.std.specs.Bool.{OnTrue, OnFalse};
 ghost use Rattle.std.specs.Borrow.{sem};
 ghost use Rattle.guest_memory.specs.Memory.{Inside, IsRest, SameRange, is_inside, stored};
@@ -13,14 +13,12 @@ ghost use Rattle.board.specs.Devices.{has_sent, taken_reply};
 ghost use Rattle.board.specs.declared.event.DeviceEvent.{DeviceEvent};
 ghost use Rattle.board.specs.declared.event.EventKind.{EventKind};
 ghost use Rattle.board.specs.declared.pause.Turn.{Turn};
-ghost use Rattle.board.specs.declared.reply.Reply.{Reply};
 ghost use Rattle.board.specs.Backing.{tags_in};
 ghost use Rattle.board.specs.Image.{Health};
 ghost use Rattle.board.specs.Lending.{LendsBytes, with_page_bits};
-ghost use Rattle.board.specs.Outcome.{replies};
 ghost use Rattle.board.specs.Pausing.{Begins, PausesByLimit, input_service, reply_of};
+ghost use Rattle.board.specs.Quiet.{AnswersQuietly};
 ghost use Rattle.board.specs.Slot.{AreInterruptWords, interrupt_words, sectors_in, state_of};
-ghost use Rattle.board.specs.World.{MayGive};
 
 use crate::guest::Guest;
 use crate::pause::Turn;
@@ -133,36 +131,21 @@ impl<A: Allocator + Copy> Guest<A> {
         width: u8,
         value: u32,
     ) -> Reply<A>
-        ensures given { (image : List ℕ) (health : Health) →
-            MayGive (state_of image self.old) (EventKind.Device device (DeviceEvent.Write offset width value)) health health
-            (replies (state_of image self.new) result) }
-        ensures extent { self.new.extent ≡ self.old.extent }
-        ensures disturbed { self.new.disturbed ≡ self.old.disturbed }
-        ensures answered { result ≢ Reply.NoMemory }
+        ensures { AnswersQuietly self.old (EventKind.Device device (DeviceEvent.Write offset width value)) self.new result }
     {
         self.slot.write_device(device, offset, width, value)
     }
 
     /// Supplies a further device with bytes.
     pub(crate) fn supply(&mut self, device: u8, bytes: &[u8]) -> Reply<A>
-        ensures given { (image : List ℕ) (health : Health) →
-            MayGive (state_of image self.old) (EventKind.Device device (DeviceEvent.Supply bytes.now)) health health
-            (replies (state_of image self.new) result) }
-        ensures extent { self.new.extent ≡ self.old.extent }
-        ensures disturbed { self.new.disturbed ≡ self.old.disturbed }
-        ensures answered { result ≢ Reply.NoMemory }
+        ensures { AnswersQuietly self.old (EventKind.Device device (DeviceEvent.Supply bytes.now)) self.new result }
     {
         self.slot.supply_device(device, bytes)
     }
 
     /// Hands a network card a frame.
     pub(crate) fn receive(&mut self, device: u8, frame: &[u8]) -> Reply<A>
-        ensures given { (image : List ℕ) (health : Health) →
-            MayGive (state_of image self.old) (EventKind.Device device (DeviceEvent.Receive frame.now)) health health
-            (replies (state_of image self.new) result) }
-        ensures extent { self.new.extent ≡ self.old.extent }
-        ensures disturbed { self.new.disturbed ≡ self.old.disturbed }
-        ensures answered { result ≢ Reply.NoMemory }
+        ensures { AnswersQuietly self.old (EventKind.Device device (DeviceEvent.Receive frame.now)) self.new result }
     {
         self.slot.receive_frame(device, frame)
     }
@@ -170,12 +153,9 @@ impl<A: Allocator + Copy> Guest<A> {
     /// Takes away what a further device's driver sent.
     pub(crate) fn take_sent(&mut self, device: u8) -> Option<bool>
         ensures value { result ≡ has_sent device self.old.devices }
-        ensures given { (image : List ℕ) (health : Health) →
-            MayGive (state_of image self.old) (EventKind.Device device DeviceEvent.TakeSent) health health
-            (replies (state_of image self.new) (taken_reply {A = A} device self.old.devices)) }
+        ensures answers { AnswersQuietly self.old (EventKind.Device device DeviceEvent.TakeSent) self.new
+            (taken_reply {A = A} device self.old.devices) }
         ensures kept { result ≡ None → self.new ≡ self.old }
-        ensures extent { self.new.extent ≡ self.old.extent }
-        ensures disturbed { self.new.disturbed ≡ self.old.disturbed }
     {
         self.slot.drop_sent(device)
     }

@@ -1,15 +1,13 @@
 //! A guest's snapshot, and a guest that takes one up. While something is in flight neither is done: nothing that is in flight
 //! is part of a snapshot.
 
-ghost use Rattle.std.specs.Prelude.{◌≡◌, ◌↔◌, ◌<◌, ℕ, List, false, IfOk, IsErrOf, IsOk, IsTrue, OnErr, length};
+ghost use Rattle.std.specs.Prelude.{◌≡◌, ◌↔◌, ◌<◌, false, IfOk, IsErrOf, IsOk, IsTrue, OnErr, length};
 ghost use Rattle.board.specs.declared.event.EventKind.{EventKind};
 ghost use Rattle.board.specs.declared.saved.{RestoreFault.{RestoreFault}, RestoreRefusal.{RestoreRefusal}, SaveRefusal.{SaveRefusal}};
-ghost use Rattle.board.specs.Image.{Health, sectors_of};
-ghost use Rattle.board.specs.Outcome.{replies};
+ghost use Rattle.board.specs.Quiet.{AnswersQuietly};
 ghost use Rattle.board.specs.Restoring.{refusal_of, restore_reply};
 ghost use Rattle.board.specs.Saved.{IsAs, IsCauseOf, IsLike, IsSavedTo, IsSnapshotOf, snapshot_of};
-ghost use Rattle.board.specs.Slot.{BoardSlot, is_at_work, state_of};
-ghost use Rattle.board.specs.World.{MayGive};
+ghost use Rattle.board.specs.Slot.{BoardSlot, is_at_work};
 
 use crate::guest::Guest;
 use crate::saved::{RestoreFault, RestoreRefusal, SaveRefusal};
@@ -50,12 +48,7 @@ impl<A: Allocator> Guest<A> {
 
     /// Takes up a snapshot of a slot of the same description. What is refused changes nothing.
     pub(crate) fn restore(&mut self, from: &[u8]) -> Result<(), RestoreRefusal>
-        ensures given { (image : List ℕ) (health : Health) →
-            sectors_of (state_of image self.old).extent ≡ self.old.extent.count →
-            MayGive {A = A} (state_of image self.old) (EventKind.Restore from.now) health health
-            (replies (state_of image self.new) (restore_reply result)) }
-        ensures extent { self.new.extent ≡ self.old.extent }
-        ensures disturbed { self.new.disturbed ≡ self.old.disturbed }
+        ensures answers { AnswersQuietly {A = A} self.old (EventKind.Restore from.now) self.new (restore_reply result) }
         ensures busy { IsErrOf result RestoreRefusal.Busy ↔ IsTrue (is_at_work self.old) }
         ensures there { ¬ IsErrOf result RestoreRefusal.BadSlot }
         ensures fault { (why : RestoreFault) → IsErrOf result (RestoreRefusal.Fault why) →

@@ -1,20 +1,14 @@
 //! What is done to the slot's further devices.
 
-ghost use Rattle.std.specs.Prelude.{◌≡◌, ◌≢◌, ◌++◌, ◌∷◌, ℕ, List, [], All, None, true, IfErr, IfOk, IfSome, IsSome, OnErr, OnOk, length};
+ghost use Rattle.std.specs.Prelude.{◌≡◌, ◌++◌, ◌∷◌, [], All, None, IfErr, IfOk, IfSome, OnErr, OnOk, length};
 ghost use Rattle.std.specs.List.{slice_get};
 ghost use Rattle.std.specs.Option.{option_map};
-ghost use Rattle.guest_memory.specs.Memory.{SameRange};
 ghost use Rattle.block_device.specs.Flights.{TagIsHeld};
 ghost use Rattle.device_list.specs.Device.{fresh_device};
 ghost use Rattle.device_list.specs.List.{IsRefusedFor, are_at_work, disk_at, is_starved_at, refusal_of, sent_by};
 ghost use Rattle.board.specs.declared.event.DeviceEvent.{DeviceEvent};
-ghost use Rattle.board.specs.declared.event.EventKind.{EventKind};
-ghost use Rattle.board.specs.declared.reply.Reply.{Reply};
-ghost use Rattle.board.specs.Devices.{GivesDevice, TakesMemoryFor, can_plug, has_sent, taken_reply};
-ghost use Rattle.board.specs.Image.{Health};
-ghost use Rattle.board.specs.Outcome.{replies};
-ghost use Rattle.board.specs.Quiet.{GivesQuietly};
-ghost use Rattle.board.specs.Slot.{state_of};
+ghost use Rattle.board.specs.Devices.{has_sent, taken_reply};
+ghost use Rattle.board.specs.Quiet.{DoesToDevice};
 
 use crate::bytes::Bytes;
 use crate::event::DeviceEvent;
@@ -30,13 +24,7 @@ impl<A: Allocator + Copy> Slot<A> {
     /// Does this to the further device of this number.
     #[inline(never)]
     pub(super) fn device_event(&mut self, alloc: A, device: u8, what: &DeviceEvent<A>) -> Reply<A>
-        ensures given { GivesQuietly self.old (EventKind.Device device what.now) self.new result }
-        ensures rest { self.new ≡ record self.old { memory = self.new.memory; devices = self.new.devices } }
-        ensures range { SameRange self.old.memory self.new.memory }
-        ensures there { result ≢ Reply.BadSlot }
-        ensures in_range { result ≢ Reply.BadRange }
-        ensures no_memory { result ≡ Reply.NoMemory → (image : List ℕ) →
-            TakesMemoryFor device what.now (state_of image self.old) }
+        ensures { DoesToDevice device what.now self.old self.new result }
     {
         match what {
             DeviceEvent::Plug(spec) => self.plug_device(alloc, device, *spec),
@@ -57,12 +45,7 @@ impl<A: Allocator + Copy> Slot<A> {
 
     // Gives the slot a device that has this number.
     fn plug_device(&mut self, alloc: A, device: u8, spec: DeviceSpec) -> Reply<A>
-        ensures given { GivesQuietly self.old (EventKind.Device device (DeviceEvent.Plug spec)) self.new result }
-        ensures rest { self.new ≡ record self.old { devices = self.new.devices } }
-        ensures there { result ≢ Reply.BadSlot }
-        ensures in_range { result ≢ Reply.BadRange }
-        ensures no_memory { result ≡ Reply.NoMemory → (image : List ℕ) →
-            can_plug device spec (state_of image self.old) ≡ true }
+        ensures { DoesToDevice device (DeviceEvent.Plug spec) self.old self.new result }
     {
         if usize::from(device) != self.devices.len() {
             return Reply::BadDevice;
@@ -76,12 +59,7 @@ impl<A: Allocator + Copy> Slot<A> {
 
     // Reads a device's window (4.2.2).
     fn read_device(&self, device: u8, offset: u16, width: u8) -> Reply<A>
-        ensures given { (image : List ℕ) (health : Health) →
-            GivesDevice device (DeviceEvent.Read offset width) (state_of image self.now) health health
-            (replies (state_of image self.now) result) }
-        ensures there { result ≢ Reply.BadSlot }
-        ensures in_range { result ≢ Reply.BadRange }
-        ensures no_memory { result ≢ Reply.NoMemory }
+        ensures { DoesToDevice device (DeviceEvent.Read offset width) self.now self.now result }
     {
         match self.devices.read(device, offset, width) {
             Some(value) => Reply::Value(value),
@@ -97,14 +75,7 @@ impl<A: Allocator + Copy> Slot<A> {
         width: u8,
         value: u32,
     ) -> Reply<A>
-        ensures given { (image : List ℕ) (health : Health) →
-            GivesDevice device (DeviceEvent.Write offset width value) (state_of image self.old) health health
-            (replies (state_of image self.new) result) }
-        ensures rest { self.new ≡ record self.old { memory = self.new.memory; devices = self.new.devices } }
-        ensures range { SameRange self.old.memory self.new.memory }
-        ensures there { result ≢ Reply.BadSlot }
-        ensures in_range { result ≢ Reply.BadRange }
-        ensures no_memory { result ≢ Reply.NoMemory }
+        ensures { DoesToDevice device (DeviceEvent.Write offset width value) self.old self.new result }
     {
         let (memory, room) = (&mut self.memory, &mut self.chain);
         match self
@@ -119,14 +90,7 @@ impl<A: Allocator + Copy> Slot<A> {
 
     /// Does what the host says of a disk that it serves.
     pub(crate) fn tell_device(&mut self, device: u8, said: HostEvent) -> Reply<A>
-        ensures given { (image : List ℕ) (health : Health) →
-            GivesDevice device (DeviceEvent.Host said) (state_of image self.old) health health
-            (replies (state_of image self.new) result) }
-        ensures rest { self.new ≡ record self.old { memory = self.new.memory; devices = self.new.devices } }
-        ensures range { SameRange self.old.memory self.new.memory }
-        ensures there { result ≢ Reply.BadSlot }
-        ensures in_range { result ≢ Reply.BadRange }
-        ensures no_memory { result ≢ Reply.NoMemory }
+        ensures { DoesToDevice device (DeviceEvent.Host said) self.old self.new result }
     {
         let (memory, room) = (&mut self.memory, &mut self.chain);
         match self.devices.tell(device, said, memory, room) {
@@ -138,14 +102,7 @@ impl<A: Allocator + Copy> Slot<A> {
 
     /// Supplies a device with bytes.
     pub(crate) fn supply_device(&mut self, device: u8, bytes: &[u8]) -> Reply<A>
-        ensures given { (image : List ℕ) (health : Health) →
-            GivesDevice device (DeviceEvent.Supply bytes.now) (state_of image self.old) health health
-            (replies (state_of image self.new) result) }
-        ensures rest { self.new ≡ record self.old { memory = self.new.memory; devices = self.new.devices } }
-        ensures range { SameRange self.old.memory self.new.memory }
-        ensures there { result ≢ Reply.BadSlot }
-        ensures in_range { result ≢ Reply.BadRange }
-        ensures no_memory { result ≢ Reply.NoMemory }
+        ensures { DoesToDevice device (DeviceEvent.Supply bytes.now) self.old self.new result }
     {
         let (memory, room) = (&mut self.memory, &mut self.chain);
         match self.devices.supply(device, bytes, memory, room) {
@@ -156,14 +113,7 @@ impl<A: Allocator + Copy> Slot<A> {
 
     /// Hands a network card a frame.
     pub(crate) fn receive_frame(&mut self, device: u8, frame: &[u8]) -> Reply<A>
-        ensures given { (image : List ℕ) (health : Health) →
-            GivesDevice device (DeviceEvent.Receive frame.now) (state_of image self.old) health health
-            (replies (state_of image self.new) result) }
-        ensures rest { self.new ≡ record self.old { memory = self.new.memory; devices = self.new.devices } }
-        ensures range { SameRange self.old.memory self.new.memory }
-        ensures there { result ≢ Reply.BadSlot }
-        ensures in_range { result ≢ Reply.BadRange }
-        ensures no_memory { result ≢ Reply.NoMemory }
+        ensures { DoesToDevice device (DeviceEvent.Receive frame.now) self.old self.new result }
     {
         let (memory, room) = (&mut self.memory, &mut self.chain);
         match self.devices.receive(device, frame, memory, room) {
@@ -175,12 +125,7 @@ impl<A: Allocator + Copy> Slot<A> {
 
     // Takes what a device's driver sent.
     fn take_sent(&mut self, alloc: A, device: u8) -> Reply<A>
-        ensures given { GivesQuietly self.old (EventKind.Device device DeviceEvent.TakeSent) self.new result }
-        ensures rest { self.new ≡ record self.old { memory = self.new.memory; devices = self.new.devices } }
-        ensures range { SameRange self.old.memory self.new.memory }
-        ensures there { result ≢ Reply.BadSlot }
-        ensures in_range { result ≢ Reply.BadRange }
-        ensures no_memory { result ≡ Reply.NoMemory → IsSome (sent_by device self.old.devices) }
+        ensures { DoesToDevice device DeviceEvent.TakeSent self.old self.new result }
     {
         let Some((front, back)) = self.devices.sent(device) else {
             return self.nothing_sent(alloc, device);
@@ -196,12 +141,9 @@ impl<A: Allocator + Copy> Slot<A> {
     /// Takes away what a device's driver sent. Answers whether anything waited, of a device whose driver sends anything.
     pub(crate) fn drop_sent(&mut self, device: u8) -> Option<bool>
         ensures value { result ≡ has_sent device self.old.devices }
-        ensures given { (image : List ℕ) (health : Health) →
-            GivesDevice device DeviceEvent.TakeSent (state_of image self.old) health health
-            (replies (state_of image self.new) (taken_reply {A = A} device self.old.devices)) }
+        ensures does { DoesToDevice device DeviceEvent.TakeSent self.old self.new
+            (taken_reply {A = A} device self.old.devices) }
         ensures kept { result ≡ None → self.new ≡ self.old }
-        ensures rest { self.new ≡ record self.old { memory = self.new.memory; devices = self.new.devices } }
-        ensures range { SameRange self.old.memory self.new.memory }
     {
         if !self.devices.has_sender(device) {
             return None;
@@ -225,12 +167,7 @@ impl<A: Allocator + Copy> Slot<A> {
     // What the host is answered that takes what was sent where nothing waits.
     fn nothing_sent(&self, alloc: A, device: u8) -> Reply<A>
         requires { sent_by device self.now.devices ≡ None }
-        ensures given { (image : List ℕ) (health : Health) →
-            GivesDevice device DeviceEvent.TakeSent (state_of image self.now) health health
-            (replies (state_of image self.now) result) }
-        ensures there { result ≢ Reply.BadSlot }
-        ensures in_range { result ≢ Reply.BadRange }
-        ensures no_memory { result ≢ Reply.NoMemory }
+        ensures { DoesToDevice device DeviceEvent.TakeSent self.now self.now result }
     {
         if self.devices.has_sender(device) {
             Reply::Bytes(Bytes::new(alloc))
@@ -241,13 +178,7 @@ impl<A: Allocator + Copy> Slot<A> {
 
     // Sets whether a network card's link is up.
     fn set_link(&mut self, device: u8, up: bool) -> Reply<A>
-        ensures given { (image : List ℕ) (health : Health) →
-            GivesDevice device (DeviceEvent.SetLink up) (state_of image self.old) health health
-            (replies (state_of image self.new) result) }
-        ensures rest { self.new ≡ record self.old { devices = self.new.devices } }
-        ensures there { result ≢ Reply.BadSlot }
-        ensures in_range { result ≢ Reply.BadRange }
-        ensures no_memory { result ≢ Reply.NoMemory }
+        ensures { DoesToDevice device (DeviceEvent.SetLink up) self.old self.new result }
     {
         if self.devices.set_link(device, up) {
             Reply::Done
@@ -258,13 +189,7 @@ impl<A: Allocator + Copy> Slot<A> {
 
     // Changes a console's size.
     fn resize_device(&mut self, device: u8, cols: u16, rows: u16) -> Reply<A>
-        ensures given { (image : List ℕ) (health : Health) →
-            GivesDevice device (DeviceEvent.Resize cols rows) (state_of image self.old) health health
-            (replies (state_of image self.new) result) }
-        ensures rest { self.new ≡ record self.old { devices = self.new.devices } }
-        ensures there { result ≢ Reply.BadSlot }
-        ensures in_range { result ≢ Reply.BadRange }
-        ensures no_memory { result ≢ Reply.NoMemory }
+        ensures { DoesToDevice device (DeviceEvent.Resize cols rows) self.old self.new result }
     {
         if self.devices.resize(device, cols, rows) {
             Reply::Done

@@ -1,13 +1,12 @@
-use Rattle.std.proofs.Common.{◌≡◌, Some, None, [], sym, ◌∙◌, ap, subst}
+use Rattle.std.proofs.Common.{◌≡◌, Some, None, sym, ◌∙◌, ap}
+use Rattle.std.specs.Prelude.{slice_set}
 use Rattle.std.specs.List.{slice_get}
 use Rattle.std.proofs.lemmas.Option.{same_Some}
 use Rattle.board.specs.declared.event.EventKind.TheVariants.{Restore}
-use Rattle.board.specs.Image.{Tells}
-use Rattle.board.specs.World.{disturbed_of, extents_of}
-use Rattle.board.proofs.Lists.{get_set, is_there, not_there, others_kept}
-use Rattle.board.proofs.Access.{disturbed_kept, kept_board, restore_answers}
-use Rattle.board.proofs.Runs.{answered}
-use Rattle.board.proofs.Seats.{extents_of-set, handles_missing, sound_set}
+use Rattle.board.specs.Restoring.{restore_reply}
+use Rattle.board.proofs.Lists.{get_set, is_there, not_there}
+use Rattle.board.proofs.Access.{LeavesQuietly, answers_missing, kept_board, leaves_quietly}
+use Rattle.board.proofs.Seats.{sound_set}
 use Rattle.board.proofs.board.Board.restore.Goals as goal
 
 -- the slot of that number
@@ -18,28 +17,33 @@ found g c = is_there c.self.inside.slots.items c.args.slot c.in-Some.found c.in-
 pub invariant_of-self-2 : goal.invariant_of-self-2
 invariant_of-self-2 g c =
     sound_set _ c.self.inside.slots.items c.args.slot c.in-Some.found.now c.restore.new.self
-    c.restore.ensures.extent (found g c) c.self.invariant
+    c.restore.ensures.answers.extent (found g c) c.self.invariant
 
-pub returns-clause-extents : goal.returns-clause-extents
-returns-clause-extents g c =
-    extents_of-set c.self.inside.slots.items c.args.slot c.in-Some.found.now c.restore.new.self
-    (found g c) c.restore.ensures.extent ∙ ap (λ b. extents_of b.slots) c.self.view_is
-
-pub returns-clause-disturbed : goal.returns-clause-disturbed
-returns-clause-disturbed g c =
-    disturbed_kept c.self.inside.slots.items c.args.slot c.in-Some.found.now c.restore.new.self
-    (found g c) c.restore.ensures.disturbed
-    ∙ ap (λ b. disturbed_of b.slots) c.self.view_is
+-- what is left of the board
+left : (g : _) (c : goal.After-self-2-1 g)
+    → LeavesQuietly g.I.Image.disk c.args.self.now c.args.slot (Restore c.args.from.now)
+    (restore_reply {A = g.row.A.Denot} c.restore.result)
+    (record {
+      slots = slice_set c.self.inside.slots.items c.args.slot c.restore.new.self;
+      image = c.self.inside.cache;
+    })
+left g c =
+    leaves_quietly g.I.Image.disk c.self.inside.slots.items c.self.inside.cache c.args.slot c.in-Some.found
+    c.restore.new.self (Restore c.args.from.now) (restore_reply c.restore.result) c.args.self.now
+    (g.met.I.Image.whole c.self.inside.cache) c.self.invariant c.in-Some.ensures.item c.self.view_is
+    c.restore.ensures.answers
 
 pub returns-clause-step : goal.returns-clause-step
-returns-clause-step g c tells =
-    let telling : Tells (g.I.Image.disk c.self.inside.cache) =
-    subst (λ b. Tells (g.I.Image.disk b.image)) (sym c.self.view_is) tells in
-    rw (← c.self.view_is)
-    (restore_answers _ c.self.inside.slots.items (g.I.Image.disk c.self.inside.cache) c.args.slot
-    c.in-Some.found.now c.restore.new.self c.args.from.now c.restore.result
-    telling (g.met.I.Image.whole c.self.inside.cache) c.self.invariant (found g c)
-    c.restore.ensures.extent c.restore.ensures.disturbed c.restore.ensures.given)
+returns-clause-step g c = (left g c).step
+
+pub returns-clause-others : goal.returns-clause-others
+returns-clause-others g c = (left g c).others
+
+pub returns-clause-extents : goal.returns-clause-extents
+returns-clause-extents g c = (left g c).extents
+
+pub returns-clause-disturbed : goal.returns-clause-disturbed
+returns-clause-disturbed g c = (left g c).disturbed
 
 there : (g : _) (c : goal.After-self-2-1 g) → slice_get c.args.self.now.slots c.args.slot
     ≡ Some c.in-Some.found.now
@@ -49,10 +53,8 @@ there g c =
 
 pub returns-in_default-clause-step : goal.returns-in_default-clause-step
 returns-in_default-clause-step g c tells =
-    rw (← c.self.view_is)
-    (answered (handles_missing c.self.inside.slots.items (g.I.Image.disk c.self.inside.cache)
-    (record { slot = c.args.slot; what = Restore c.args.from.now }) []
-    (not_there c.self.inside.slots.items c.args.slot c.in_default.ensures.item)))
+    answers_missing g.I.Image.disk c.self.inside.slots.items c.self.inside.cache c.args.slot
+    (Restore c.args.from.now) c.args.self.now c.in_default.ensures.item c.self.view_is
 
 pub returns-in_default-clause-busy : goal.returns-in_default-clause-busy
 returns-in_default-clause-busy g c =
@@ -87,8 +89,3 @@ returns-clause-kept g c =
     c.restore.new.self c.args.self.now
     (found g c)
     c.self.view_is c.restore.ensures.kept
-
-pub returns-clause-others : goal.returns-clause-others
-returns-clause-others g c other differ =
-    others_kept c.self.inside.slots.items c.args.slot c.restore.new.self other differ
-    ∙ ap (λ b. slice_get b.slots other) c.self.view_is

@@ -1,27 +1,18 @@
-use Rattle.std.proofs.Common.{◌≡◌, None, Some, refl, sym, ◌∙◌, ap}
+use Rattle.std.proofs.Common.{◌≡◌, None, Some, refl, sym, ◌∙◌}
 use Rattle.std.specs.List.{slice_get}
 use Rattle.std.proofs.lemmas.Option.{same_Some}
-use Rattle.board.specs.Image.{bytes_of, health_of}
 use Rattle.board.specs.declared.event.DeviceEvent.TheVariants.{TakeSent}
 use Rattle.board.specs.declared.event.EventKind.TheVariants.{Device}
 use Rattle.board.specs.Devices.{taken_reply}
-use Rattle.board.specs.World.{disturbed_of, extents_of}
-use Rattle.board.proofs.Access.{disturbed_kept, quiet_answers}
-use Rattle.board.proofs.FurtherDevices.{taken_answered}
-use Rattle.board.proofs.Lists.{is_there, not_there, others_kept, set_same}
-use Rattle.board.proofs.Noted.{had_memory}
-use Rattle.board.proofs.Seats.{extents_of-set, sound_set}
+use Rattle.board.proofs.Access.{leaves_quietly}
+use Rattle.board.proofs.Lists.{is_there, not_there, set_same}
+use Rattle.board.proofs.Seats.{sound_set}
 use Rattle.board.proofs.board.Board.take_sent.Goals as goal
-
--- the slot of that number
-found : (g : _) (c : goal.After-self-2-1 g) → slice_get c.self.inside.slots.items c.args.slot
-    ≡ Some c.in-Some.found.now
-found g c = is_there c.self.inside.slots.items c.args.slot c.in-Some.found c.in-Some.ensures.item
 
 pub invariant_of-self-2 : goal.invariant_of-self-2
 invariant_of-self-2 g c =
     sound_set _ c.self.inside.slots.items c.args.slot c.in-Some.found.now c.take_sent.new.self
-    c.take_sent.ensures.extent (found g c) c.self.invariant
+    c.take_sent.ensures.answers.extent (is_there c.self.inside.slots.items c.args.slot c.in-Some.found c.in-Some.ensures.item) c.self.invariant
 
 -- where there is none
 none : (g : _) (c : goal.After-self-in_default-2-1 g) → slice_get c.args.self.now.slots c.args.slot ≡ None
@@ -35,44 +26,24 @@ pub returns-in_default-clause-step : goal.returns-in_default-clause-step
 returns-in_default-clause-step g c tells slot here =
     let is : None ≡ Some slot = sym (none g c) ∙ here in absurd (cc (is))
 
-pub returns-in_default-clause-others : goal.returns-in_default-clause-others
-returns-in_default-clause-others g c other differ = ap (λ b. slice_get b.slots other) c.self.view_is
-
-pub returns-clause-value : goal.returns-clause-value
-returns-clause-value g c = rw (← c.self.view_is, found g c) c.take_sent.ensures.value
-
-pub returns-clause-kept : goal.returns-clause-kept
-returns-clause-kept g c none =
-    rw (
-      ← c.self.view_is,
-      c.take_sent.ensures.kept none,
-      set_same c.self.inside.slots.items c.args.slot
-          c.in-Some.found.now c.in-Some.found.now (found g c) refl,
-    ) refl
-
-pub returns-clause-step : goal.returns-clause-step
-returns-clause-step g c tells slot here =
-    let disk = g.I.Image.disk c.self.inside.cache in
+pub returns : goal.returns
+returns g c =
+    let slots = c.self.inside.slots.items in
     let now = c.in-Some.found.now in
-    rw (← c.self.view_is, ← (same_Some now slot (sym (found g c) ∙ rw (← c.self.view_is) at here)))
-    (quiet_answers _ c.self.inside.slots.items disk c.args.slot now c.take_sent.new.self
-    (Device c.args.device TakeSent) (taken_reply c.args.device now.devices) c.self.invariant.apart (found g c)
-    c.take_sent.ensures.extent c.take_sent.ensures.disturbed
-    (had_memory (taken_reply c.args.device now.devices) (taken_answered _ c.args.device now.devices))
-    (c.take_sent.ensures.given (bytes_of disk) (health_of disk)))
-
-pub returns-clause-others : goal.returns-clause-others
-returns-clause-others g c other differ =
-    others_kept c.self.inside.slots.items c.args.slot c.take_sent.new.self other differ
-    ∙ ap (λ b. slice_get b.slots other) c.self.view_is
-
-pub returns-clause-extents : goal.returns-clause-extents
-returns-clause-extents g c =
-    extents_of-set c.self.inside.slots.items c.args.slot c.in-Some.found.now c.take_sent.new.self
-    (found g c) c.take_sent.ensures.extent ∙ ap (λ b. extents_of b.slots) c.self.view_is
-
-pub returns-clause-disturbed : goal.returns-clause-disturbed
-returns-clause-disturbed g c =
-    disturbed_kept c.self.inside.slots.items c.args.slot c.in-Some.found.now c.take_sent.new.self
-    (found g c) c.take_sent.ensures.disturbed
-    ∙ ap (λ b. disturbed_of b.slots) c.self.view_is
+    let found = is_there slots c.args.slot c.in-Some.found c.in-Some.ensures.item in
+    let left =
+    leaves_quietly g.I.Image.disk slots c.self.inside.cache c.args.slot c.in-Some.found c.take_sent.new.self
+    (Device c.args.device TakeSent) (taken_reply c.args.device now.devices) c.args.self.now
+    (g.met.I.Image.whole c.self.inside.cache) c.self.invariant c.in-Some.ensures.item c.self.view_is c.take_sent.ensures.answers in
+    record {
+      value = rw (← c.self.view_is, found) c.take_sent.ensures.value;
+      step = λ tells slot here.
+          rw (← same_Some now slot (sym found ∙ rw (← c.self.view_is) at here)) (left.step tells);
+      kept = λ none.
+          rw (← c.self.view_is, c.take_sent.ensures.kept none, set_same slots c.args.slot now now found refl)
+          refl;
+      others = left.others;
+      extents = left.extents;
+      image = left.image;
+      disturbed = left.disturbed;
+    }

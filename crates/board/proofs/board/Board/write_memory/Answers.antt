@@ -14,11 +14,11 @@ invariant_of-self-2 g c =
     (is_there c.self.inside.slots.items c.args.slot c.in-Some.slot c.in-Some.ensures.item) c.self.invariant
 
 pub returns-clause-step : goal.returns-clause-step
-returns-clause-step g c tells =
-    rw (← c.self.view_is)
-    (bytes_put _ c.self.inside.slots.items (g.I.Image.disk c.self.inside.cache) c.args.slot c.in-Some.slot.now
-    c.put_bytes.new.self c.args.addr c.args.from.now c.put_bytes.result
-    c.self.invariant.apart (is_there c.self.inside.slots.items c.args.slot c.in-Some.slot c.in-Some.ensures.item) c.put_bytes.ensures.test c.put_bytes.ensures.done)
+returns-clause-step g c =
+    bytes_put _ g.I.Image.disk c.self.inside.slots.items c.self.inside.cache c.args.slot c.in-Some.slot
+    c.put_bytes.new.self c.args.addr c.args.from.now c.put_bytes.result c.args.self.now
+    (g.met.I.Image.whole c.self.inside.cache) c.self.invariant c.in-Some.ensures.item c.self.view_is
+    c.put_bytes.ensures.test c.put_bytes.ensures.done
 
 pub returns-clause-inside : goal.returns-clause-inside
 returns-clause-inside g c =

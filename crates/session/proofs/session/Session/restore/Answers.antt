@@ -8,8 +8,7 @@ returns-clause-call g c =
     let r = c.restore in
     rw (c.if-is_paused.ensures.idle.0 refl, ← c.self.view_is)
     (restored _ _ _ c.args.slot c.args.from.now r.result (r.ensures.step refl) r.ensures.others r.ensures.extents
-    (rw (r.ensures.image) refl) refl refl refl r.ensures.missing
-    r.ensures.kept (λ is. rw is refl)
+    (rw (r.ensures.image) refl) r.ensures.missing
     (rw (← c.self.view_is) at (c.if-is_paused.ensures.idle.0 refl)) c.self.invariant.1)
 
 pub returns-clause-taken : goal.returns-clause-taken

@@ -1,5 +1,5 @@
 -- A frame that a driver sent is taken away, or it is refused.
-use Rattle.std.proofs.Common.{◌≡◌, Bool, false, true, Err, length, refl, sym, ◌∙◌}
+use Rattle.std.proofs.Common.{◌≡◌, inl, inr, Bool, false, true, Err, length, refl, sym, ◌∙◌}
 use Rattle.std.specs.Prelude.{nat_lt, if◌then◌else◌}
 use Rattle.std.specs.List.{slice_get}
 use Rattle.board.specs.declared.event.DeviceEvent.TheVariants.{TakeSent}
@@ -10,29 +10,24 @@ use Rattle.session.specs.Answering.{Means, frame_response}
 use Rattle.session.specs.Devices.{sent_at}
 use Rattle.session.specs.Pausing.{IsToldCall}
 use Rattle.session.proofs.Devices.{none_taken, refused_device, refused_step}
-use Rattle.session.proofs.Exact.{DeviceRefuses, SentCall, device_busy, sent_call, stepped_call}
+use Rattle.session.proofs.Exact.{DeviceRefuses, device_busy, sent_call, stepped_call}
 use Rattle.session.proofs.session.Session.take_sent.Goals as goal
 
-refused : (g : _) (c : goal.Then-is_paused g)
-    → IsToldCall {A = g.row.A.Denot} c.args.self.now c.args.slot (Device c.args.device TakeSent)
-    (Means (frame_response (sent_at c.args.slot c.args.device c.args.self.now.slots)) (Err refusal.Busy)) c.args.self.now
-    × DeviceRefuses {A = g.row.A.Denot} {T = Bool} c.args.self.now c.args.slot c.args.device TakeSent (Err refusal.Busy)
-refused g c =
-    device_busy c.args.self.now c.args.slot c.args.device TakeSent (frame_response (sent_at c.args.slot c.args.device c.args.self.now.slots)) (λ value. refl)
+pub returns-then-is_paused : goal.returns-then-is_paused
+returns-then-is_paused g c =
+    let refused =
+    device_busy {A = g.row.A.Denot} c.args.self.now c.args.slot c.args.device TakeSent
+    (frame_response (sent_at c.args.slot c.args.device c.args.self.now.slots)) (λ value. refl)
     (rw (← c.self.view_is) c.self.invariant.1)
-    (λ idle. let is : true ≡ false = c.if-is_paused.ensures.idle.1 idle in absurd (cc (is)))
-
-pub returns-then-is_paused-clause-call : goal.returns-then-is_paused-clause-call
-returns-then-is_paused-clause-call g c = (refused g c).0
-
-pub returns-then-is_paused-clause-bad_slot : goal.returns-then-is_paused-clause-bad_slot
-returns-then-is_paused-clause-bad_slot g c = (refused g c).1.bad_slot
-
-pub returns-then-is_paused-clause-busy : goal.returns-then-is_paused-clause-busy
-returns-then-is_paused-clause-busy g c = (refused g c).1.busy (λ state. refl)
-
-pub returns-then-is_paused-clause-bad_device : goal.returns-then-is_paused-clause-bad_device
-returns-then-is_paused-clause-bad_device g c = (refused g c).1.bad_device
+    (λ idle. let is : true ≡ false = c.if-is_paused.ensures.idle.1 idle in absurd (cc (is))) in
+    record {
+      call = refused.0;
+      taken = tt;
+      refused = inr (inl refl);
+      bad_slot = refused.1.bad_slot;
+      busy = refused.1.busy (λ state. refl);
+      bad_device = refused.1.bad_device;
+    }
 
 -- there is no such card
 missed : (g : _) (c : goal.After-of_device g)
@@ -75,28 +70,19 @@ returns-in_default-clause-bad_device g c =
     (rw (← c.self.view_is) at (missed g c).1.bad_device)
 
 -- there was a frame, or there was none
-says : (g : _) (c : goal.In-Some g)
-    → SentCall g.row.A.Denot c.args.self.now (record c.args.self.now { slots = c.take_sent.new.self.slots })
-    c.args.slot c.args.device c.in-Some.taken
-says g c =
+pub returns : goal.returns
+returns g c =
     let did = c.take_sent.ensures in
-    rw (← c.self.view_is)
-    (sent_call g.row.A.Denot _ _ c.args.slot c.args.device c.in-Some.taken c.self.invariant.1
+    rw (did.image, ← c.self.view_is)
+    (let says =
+    sent_call g.row.A.Denot _ _ c.args.slot c.args.device c.in-Some.taken c.self.invariant.1
     (rw (← c.self.view_is) at (c.if-is_paused.ensures.idle.0 refl)) (sym did.value ∙ c.in-Some.is)
-    (λ found here. rw did.image at (did.step refl found here)) did.others did.extents refl refl refl refl refl)
-
-pub returns-clause-call : goal.returns-clause-call
-returns-clause-call g c =
-    rw (c.take_sent.ensures.image, ← c.self.view_is) (rw (← c.self.view_is) at (says g c).told)
-
-pub returns-clause-taken : goal.returns-clause-taken
-returns-clause-taken g c = (says g c).waited
-
-pub returns-clause-bad_slot : goal.returns-clause-bad_slot
-returns-clause-bad_slot g c = (says g c).refuses.bad_slot
-
-pub returns-clause-busy : goal.returns-clause-busy
-returns-clause-busy g c = (says g c).refuses.busy (λ state. refl)
-
-pub returns-clause-bad_device : goal.returns-clause-bad_device
-returns-clause-bad_device g c = (says g c).refuses.bad_device
+    (λ found here. rw did.image at (did.step refl found here)) did.others did.extents refl in
+    record {
+      call = says.told;
+      taken = says.waited;
+      refused = tt;
+      bad_slot = says.refuses.bad_slot;
+      busy = says.refuses.busy (λ state. refl);
+      bad_device = says.refuses.bad_device;
+    })

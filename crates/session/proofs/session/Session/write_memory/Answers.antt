@@ -3,7 +3,6 @@ use Rattle.std.proofs.Common.{◌≡◌, false, true, Ok, Err, refl, length}
 use Rattle.std.specs.Prelude.{nat_lt, if◌then◌else◌, IsSomeAnd}
 use Rattle.std.specs.List.{slice_get}
 use Rattle.guest_memory.specs.Memory.{Inside}
-use Rattle.board.specs.declared.event.Event.{Event}
 use Rattle.board.specs.declared.event.EventKind.TheVariants.{MemWrite}
 use Rattle.board.specs.declared.reply.Reply.TheVariants.{BadRange, BadSlot, Done}
 use Rattle.session.specs.declared.response.Response.TheVariants.{Answered}
@@ -11,10 +10,9 @@ use Rattle.session.specs.declared.refusal.Refusal.TheVariants as refusal
 use Rattle.session.specs.Answering.{Means, done_response}
 use Rattle.session.specs.Pausing.{IsEventCall, IsToldCall}
 use Rattle.session.specs.Session.{IsIdle, IsStep, SessionState}
-use Rattle.session.proofs.Calls.{call_of_step, refused_range}
-use Rattle.session.proofs.Exact.{outside_range, refuses}
+use Rattle.session.proofs.Calls.{refused_range}
+use Rattle.session.proofs.Exact.{outside_range, refuses, step_call}
 use Rattle.session.proofs.InPlace.{wrote}
-use Rattle.session.proofs.Parts.{asks_nothing}
 use Rattle.session.proofs.Ranges.{not_written}
 use Rattle.session.proofs.session.Session.write_memory.Goals as goal
 
@@ -31,12 +29,8 @@ called g c =
     (record { slot = c.args.slot; what = MemWrite c.args.addr c.args.from.now }) Done (behind g c) =
     wrote _ c.args.self.now c.write_memory.new.self.slots c.args.slot c.args.addr c.args.from.now
     (rw (← c.self.view_is) (told.inside.0 refl)) (rw (← c.self.view_is) told.put) in
-    record {
-      turn = call_of_step c.args.self.now (behind g c) _ _ (c.if-is_paused.ensures.idle.0 refl)
-          (rw (← c.self.view_is) c.self.invariant.1)
-          (λ state. asks_nothing (MemWrite c.args.addr c.args.from.now) state refl) step;
-      whole = step;
-    }
+    step_call c.args.self.now (behind g c) c.args.slot (MemWrite c.args.addr c.args.from.now) Done
+    (rw (← c.self.view_is) c.self.invariant.1) (c.if-is_paused.ensures.idle.0 refl) (λ state. refl) step
 
 pub returns-then-write_memory-clause-call : goal.returns-then-write_memory-clause-call
 returns-then-write_memory-clause-call g c = record {
@@ -62,18 +56,13 @@ refused : (g : _) (c : goal.After-of_range g)
     (Means done_response (Err (if nat_lt c.args.slot (length c.args.self.now.slots) then refusal.BadRange
     else refusal.BadSlot))) c.args.self.now
 refused g c =
-    let writes : Event _ = record { slot = c.args.slot; what = MemWrite c.args.addr c.args.from.now } in
     let there = nat_lt c.args.slot (length c.args.self.now.slots) in
-    let step : IsStep c.args.self.now writes (if there then BadRange else BadSlot) c.args.self.now =
-    not_written _ c.args.self.now c.args.slot c.args.addr c.args.from.now (outside g c) in
     record {
       response = Answered (if there then BadRange else BadSlot);
-      call = record {
-        turn = call_of_step c.args.self.now c.args.self.now writes (if there then BadRange else BadSlot)
-            (c.if-is_paused.ensures.idle.0 refl) (rw (← c.self.view_is) c.self.invariant.1)
-            (λ state. asks_nothing (MemWrite c.args.addr c.args.from.now) state refl) step;
-        whole = step;
-      };
+      call = step_call c.args.self.now c.args.self.now c.args.slot (MemWrite c.args.addr c.args.from.now)
+          (if there then BadRange else BadSlot) (rw (← c.self.view_is) c.self.invariant.1)
+          (c.if-is_paused.ensures.idle.0 refl) (λ state. refl)
+          (not_written _ c.args.self.now c.args.slot c.args.addr c.args.from.now (outside g c));
       told = refused_range _ there;
     }
 
