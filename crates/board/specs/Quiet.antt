@@ -28,8 +28,8 @@ pub record AnswersQuietly {A : Type 0} (old : BoardSlot) (what : EventKind A) (n
   pub disturbed : new.disturbed ≡ old.disturbed
   pub answered : reply ≢ NoMemory
 
--- What comes of this that is done to further device n of a slot whose disk is of an image. Only its devices change, and
--- bytes of its memory; and where memory may be wanting it says so.
+-- What comes of this that is done to further device n of a slot, as over an image. Of the slot only its devices change,
+-- and bytes of its memory. Only what takes memory finds none.
 pub record DoesToDevice {A : Type 0} (n : ℕ) (what : DeviceEvent A) (old new : BoardSlot) (reply : Reply A)
     : Type 0 where
   pub given : GivesQuietly old (Device n what) new reply

@@ -1,8 +1,5 @@
 //! What goes out: the reply to each event, and its record.
 
-ghost use Rattle.std.specs.Prelude.{◌≡◌};
-ghost use Rattle.board.specs.declared.reply.Reply.{Reply};
-
 use crate::bytes::Bytes;
 use std::alloc::{Allocator, Global};
 use thiserror::Error;
@@ -42,23 +39,6 @@ pub struct Handled<A: Allocator = Global> {
     pub reply: Reply<A>,
     pub block_irq: u8,
     pub console_irq: u8,
-}
-
-impl<A: Allocator> Handled<A> {
-    /// Where there is no such slot.
-    pub(crate) fn missing() -> Handled<A>
-        ensures { result ≡ record {
-          reply = Reply.BadSlot;
-          block_irq = 0;
-          console_irq = 0;
-        } }
-    {
-        Handled {
-            reply: Reply::BadSlot,
-            block_irq: 0,
-            console_irq: 0,
-        }
-    }
 }
 
 /// An event that was handled: whose it was, what it was answered, and what could be seen after it.

@@ -1,4 +1,4 @@
-use Rattle.std.proofs.Common.{◌≡◌, None, [], refl, sym, ◌∙◌, ap}
+use Rattle.std.proofs.Common.{◌≡◌, None, Some, [], refl, sym, ◌∙◌, ap}
 use Rattle.std.specs.List.{slice_get}
 use Rattle.std.proofs.lemmas.Option.{same_Some}
 use Rattle.board.specs.Image.{bytes_of, health_of}
@@ -8,11 +8,15 @@ use Rattle.board.proofs.Lists.{get_set, is_there, not_there, others_kept}
 use Rattle.board.proofs.Seats.{extents_of-set, sound_set, takes}
 use Rattle.board.proofs.board.Board.begin_input.Goals as goal
 
+-- the slot of that number
+there : (g : _) (c : goal.After-self-2-1 g) → slice_get c.self.inside.slots.items c.args.slot
+    ≡ Some c.in-Some.slot.now
+there g c = is_there c.self.inside.slots.items c.args.slot c.in-Some.slot c.in-Some.ensures.item
+
 pub invariant_of-self-2 : goal.invariant_of-self-2
 invariant_of-self-2 g c =
     sound_set _ c.self.inside.slots.items c.args.slot c.in-Some.slot.now c.input-turn.new.self
-    c.input-turn.ensures.extent
-    (is_there c.self.inside.slots.items c.args.slot c.in-Some.slot c.in-Some.ensures.item) c.self.invariant
+    c.input-turn.ensures.extent (there g c) c.self.invariant
 
 pub returns-clause-takes : goal.returns-clause-takes
 returns-clause-takes g c tells below =
@@ -20,7 +24,7 @@ returns-clause-takes g c tells below =
     rw (← c.self.view_is, c.after.ensures.turn)
     (takes _ c.self.inside.slots.items disk disk c.args.slot c.in-Some.slot.now c.input-turn.new.self
     c.input-turn.result _ _ [] []
-    c.self.invariant.apart (is_there c.self.inside.slots.items c.args.slot c.in-Some.slot c.in-Some.ensures.item) c.input-turn.ensures.extent
+    c.self.invariant.apart (there g c) c.input-turn.ensures.extent
     (unmet_turn c.in-Some.slot.now c.input-turn.new.self c.input-turn.result disk.failures
     c.input-turn.ensures.disturbed c.input-turn.ensures.took) refl
     (record {
@@ -33,8 +37,7 @@ returns-clause-takes g c tells below =
 pub returns-clause-extents : goal.returns-clause-extents
 returns-clause-extents g c =
     extents_of-set c.self.inside.slots.items c.args.slot c.in-Some.slot.now c.input-turn.new.self
-    (is_there c.self.inside.slots.items c.args.slot c.in-Some.slot c.in-Some.ensures.item)
-    c.input-turn.ensures.extent ∙ ap (λ b. extents_of b.slots) c.self.view_is
+    (there g c) c.input-turn.ensures.extent ∙ ap (λ b. extents_of b.slots) c.self.view_is
 
 pub returns-clause-others : goal.returns-clause-others
 returns-clause-others g c other differ =
@@ -44,8 +47,7 @@ returns-clause-others g c other differ =
 pub returns-clause-disturbed : goal.returns-clause-disturbed
 returns-clause-disturbed g c =
     disturbed_kept c.self.inside.slots.items c.args.slot c.in-Some.slot.now c.input-turn.new.self
-    (is_there c.self.inside.slots.items c.args.slot c.in-Some.slot c.in-Some.ensures.item)
-    c.input-turn.ensures.disturbed
+    (there g c) c.input-turn.ensures.disturbed
     ∙ ap (λ b. disturbed_of b.slots) c.self.view_is
 
 pub returns-in_default-clause-shown : goal.returns-in_default-clause-shown
@@ -59,5 +61,5 @@ returns-clause-shown g c found here =
     let set : c.input-turn.new.self ≡ found =
     same_Some c.input-turn.new.self found
     (sym (get_set c.self.inside.slots.items c.args.slot c.in-Some.slot.now c.input-turn.new.self
-    (is_there c.self.inside.slots.items c.args.slot c.in-Some.slot c.in-Some.ensures.item)) ∙ here) in
+    (there g c)) ∙ here) in
     rw (← set) c.after.ensures.shown
