@@ -37,28 +37,37 @@ listed f ys i x so_far few is same =
     ∙ sym (ap (map f) (ap (λ n. take n ys) next ∙ take-suc ys i x few))
 
 -- the loans before a place are taken, and those from it on are as they were
-abbrev pub AreTakenTo : {X : Type 0} → (X → Type 0) → ℕ → List X → List X → Type 0
-AreTakenTo IsEmpty place old loans =
-    (drop place loans ≡ drop place old) × (length loans ≡ length old) × All IsEmpty (take place loans)
+pub record AreTakenTo {X : Type 0} (IsEmpty : X → Type 0) (place : ℕ) (old loans : List X) : Type 0 where
+  pub others : drop place loans ≡ drop place old
+  pub same : length loans ≡ length old
+  pub empty : All IsEmpty (take place loans)
 
 module _ {X : Type 0} (IsEmpty : X → Type 0) (old loans : List X) where
   -- one more is taken
-  pub taken_next : (place : ℕ) (x : X) → place < length old → AreTakenTo IsEmpty place old loans → IsEmpty x
+  taken_next : (place : ℕ) (x : X) → place < length old → AreTakenTo IsEmpty place old loans → IsEmpty x
       → AreTakenTo IsEmpty (place + 1) old (set loans place x)
-  taken_next place x few before empty = (
-    behind_same loans old place x before.0,
-    length-set loans place x ∙ before.1,
-    one_more IsEmpty loans place x (omega (arith, before.1, few)) before.2 empty,
-  )
+  taken_next place x few before empty = record {
+    others = behind_same loans old place x before.others;
+    same = length-set loans place x ∙ before.same;
+    empty = one_more IsEmpty loans place x (omega (arith, before.same, few)) before.empty empty;
+  }
 
   -- the first are taken
   pub first_taken : (place : ℕ) → AreTakenTo IsEmpty place old loans → TakesFirst IsEmpty old loans
-  first_taken place before = record { taken = place; empty = before.2; others = before.0; same = before.1 }
+  first_taken place before =
+      record { taken = place; empty = before.empty; others = before.others; same = before.same }
+
+  -- and one more
+  pub next_taken : (place : ℕ) (x : X) → place < length old → AreTakenTo IsEmpty place old loans → IsEmpty x
+      → TakesFirst IsEmpty old (set loans place x)
+  next_taken place x few before empty =
+      let after = taken_next place x few before empty in
+      record { taken = place + 1; empty = after.empty; others = after.others; same = after.same }
 
   -- all are
   pub all_taken : (place : ℕ) → AreTakenTo IsEmpty place old loans → length old ≤ place → All IsEmpty loans
   all_taken place before enough =
-      subst (All IsEmpty) (take_all place loans (omega (arith, before.1, enough))) before.2
+      subst (All IsEmpty) (take_all place loans (omega (arith, before.same, enough))) before.empty
 
 -- one more is taken, and what it had is listed behind what those before it had
 pub one_more_taken : {X Y V : Type 0} (IsEmpty : X → Type 0) (had : X → Y) (has : V → Y) (old loans : List X) (place : ℕ)
@@ -67,7 +76,7 @@ pub one_more_taken : {X Y V : Type 0} (IsEmpty : X → Type 0) (had : X → Y) (
     → loan ≡ get_or loans place loan → more ≡ row ++ (next ∷ []) → has next ≡ had loan → IsEmpty left
     → (map has more ≡ map had (take (place + 1) old)) × AreTakenTo IsEmpty (place + 1) old (set loans place left)
 one_more_taken IsEmpty had has old loans place loan left row more next few before there longer same empty =
-    let here = same_there loans old place loan before.1.0 there in (
+    let here = same_there loans old place loan before.1.others there in (
       ap (map has) longer ∙ map-append has row (next ∷ []) ∙ ap (λ y. map has row ++ (y ∷ [])) same
           ∙ listed had old place loan (map has row) few here before.0,
       taken_next IsEmpty old loans place left few before.1 empty,

@@ -1,7 +1,7 @@
-use Rattle.std.proofs.Common.{◌≡◌, ◌<◌, length, [], ◌+◌, sym, ap, ◌∙◌, arith}
+use Rattle.std.proofs.Common.{rules, ◌≡◌, ◌<◌, length, [], sym, ap, ◌∙◌, arith}
 use Rattle.std.specs.Vec.{vec_items}
 use Rattle.guest_bytes.specs.declared.loan.Loan.{Loan}
-use Rattle.c_values.proofs.OneByOne.{all_taken, first_taken, one_more_taken, taken_next}
+use Rattle.c_values.proofs.OneByOne.{all_taken, first_taken, next_taken, one_more_taken}
 use Rattle.board_ffi.proofs.loans.taken.Goals as goal
 
 abbrev IsEmpty : Loan → Type 0
@@ -17,19 +17,10 @@ loop-place-preserved c =
     (c.take.ensures.taken ∙ ap (λ (loan : Loan). loan.items) (sym c.index-loans-place.is)) c.take.ensures.left
 
 pub returns-in_err-push-clause-front : goal.returns-in_err-push-clause-front
-returns-in_err-push-clause-front c =
-    let old = c.args.loans.now in
-    let loans = c.loop-place.loans in
-    let place = c.loop-place.place in
-    first_taken IsEmpty old _ (place + 1)
-    (taken_next IsEmpty old loans place c.take.new.self (omega (arith, c.loop-place-test.true)) c.loop-place.invariant.1
-    c.take.ensures.left)
+returns-in_err-push-clause-front c = search (rules, next_taken)
 
 pub returns-clause-front : goal.returns-clause-front
-returns-clause-front c =
-    first_taken IsEmpty c.args.loans.now c.loop-place.loans c.loop-place.place c.loop-place.invariant.1
+returns-clause-front c = search (rules, first_taken)
 
 pub returns-clause-left : goal.returns-clause-left
-returns-clause-left c =
-    all_taken IsEmpty c.args.loans.now c.loop-place.loans c.loop-place.place c.loop-place.invariant.1
-    (omega (arith, c.loop-place-test.false))
+returns-clause-left c = search (rules, all_taken)
