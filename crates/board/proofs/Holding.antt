@@ -1,10 +1,14 @@
 -- A drop, a hold and a release.
-use Rattle.std.proofs.Common.{◌≡◌, ◌≢◌, ◌∙◌, inl, inr, ℕ, zero, suc, Bool, true, false, Option, Some, None, List, [], ◌∷◌, get_or, refl, sym, ap, subst}
-use Rattle.std.specs.Prelude.{IfSome, IsSome, ◌&&◌, ◌||◌}
+use Rattle.std.proofs.Common.{◌≡◌, ◌≢◌, ◌∙◌, inl, inr, ℕ, zero, suc, Bool, true, false, Option, Some, None, List, [], ◌∷◌, refl, sym, ap, subst}
+use Rattle.std.specs.Prelude.{IfSome, IsSome, ◌&&◌, ◌||◌, get_or}
 use Rattle.std.proofs.lemmas.Bool.{cases_eq}
 use Rattle.board.specs.declared.event.SlotWindow.TheVariants.{Block}
+use Rattle.block_device.specs.declared.device.BlockDevice.{BlockDevice}
+use Rattle.block_device.specs.declared.operation.HostEvent.{HostEvent}
 use Rattle.block_device.specs.declared.operation.Verdict.{Verdict}
-use Rattle.block_device.specs.Flights.{HostedQueue, InFlight, freed, is_any}
+use Rattle.block_device.specs.Flights.{HostedQueue, InFlight, IsLanding, freed, is_any}
+use Rattle.hosted_disk.specs.Disk.{LooksUnless}
+use Rattle.hosted_disk.specs.Told.{QueueTold, held_by}
 use Rattle.block_device.proofs.Landing.{landed_free, landed_others}
 use Rattle.board.specs.declared.event.EventKind.{EventKind}
 use Rattle.board.specs.declared.event.EventKind.TheVariants.{Write, Host, Device}
@@ -12,16 +16,18 @@ use Rattle.board.specs.declared.event.DeviceEvent.TheVariants as device
 use Rattle.device_list.specs.List.{disk_at}
 use Rattle.board.specs.Waiting.{waits_beside}
 use Rattle.board.proofs.FurtherDevices.{dropped_disk, freed_none}
-use Rattle.block_device.specs.declared.operation.HostEvent.TheVariants.{Drop, Release}
+use Rattle.block_device.specs.declared.operation.HostEvent.TheVariants.{Complete, Drop, Hold, Release}
 use Rattle.board.specs.declared.reply.Reply.TheVariants.{Busy}
 use Rattle.board.specs.Backing.{HostDisk, tags_in, with_tags}
-use Rattle.board.specs.Hosting.{CompletesTag, DropGives, IsNoRestore, LooksAtQueue, dropped, held, hosted_queue, must_wait, notifies_block, released, told_in, waits_now, with_queue}
+use Rattle.board.specs.HostedDisks.{SlotDisk, in_flight_of, on_hold_of, said_of}
+use Rattle.board.specs.Hosting.{DropGives, IsNoRestore, LooksAtQueue, dropped, held, must_wait, notifies_block, released, waits_now, with_queue}
 use Rattle.board.specs.Image.{Health}
 use Rattle.board.specs.Machine.{GivesBy, IsNext, at_rest, readied}
 use Rattle.board.proofs.HostedWindows.{own_tags}
 use Rattle.board.specs.Outcome.{Outcome}
 use Rattle.board.specs.Slot.{SlotState}
 use Rattle.board.specs.World.{MayGive, MayGiveBy, MayGiveOverImage}
+use Rattle.board.proofs.DiskSteps.{Comes, IsLooked, IsTold, Retakes, Stays, StepsTo, steps}
 use Rattle.board.proofs.Hosts.{ringing_own}
 use Rattle.board.proofs.Identities.{given_fixed, readied_fixed}
 use Rattle.board.proofs.OneHosted.{look_once}
@@ -110,98 +116,83 @@ dropped_further {A} n old before after outcome h =
 
 -- ---- a hold
 
-abbrev TagIn : SlotState → ℕ → Option InFlight
-TagIn state tag = get_or (tags_in state.host) tag None
-
-same_host : (old new : SlotState) (tag : ℕ) → new.host ≡ old.host → TagIn old tag ≡ None → TagIn new tag ≡ None
-same_host old new tag same free = ap (λ (h : Option HostDisk). get_or (tags_in h) tag None) same ∙ free
-
--- a look at a slot on hold leaves its tags
-looked_free : (old new : SlotState) (tag : ℕ) → old.on_hold ≡ true → LooksAtQueue old new → TagIn old tag ≡ None
-    → TagIn new tag ≡ None
-looked_free old new tag on_hold h free =
-    ap (λ (q : HostedQueue). get_or q.tags tag None) (rw on_hold at h.looks) ∙ free
-
--- a landing frees its tag and no other
-landing_free : (tag its : ℕ) (verdict : Verdict) (old : SlotState) (new : SlotState) → CompletesTag its verdict old new
-    → old.on_hold ≡ true → TagIn old tag ≡ None → TagIn new tag ≡ None
-landing_free tag its verdict old new h on_hold free =
-    let landed = h.landed in
-    let kept : landed.on_hold ≡ old.on_hold = ap (λ (s : SlotState). s.on_hold) h.lands.rest in
-    looked_free landed new tag (kept ∙ on_hold) h.looks
-    (elim (cases_eq tag its) [
-      | inl same ↦ ap (λ k. get_or (tags_in landed.host) k None) same
-          ∙ landed_free its verdict (hosted_queue old) (hosted_queue landed) h.lands.lands
-      | inr apart ↦ landed_others its tag verdict (hosted_queue old) (hosted_queue landed) h.lands.lands apart ∙ free
-    ])
-
 all_free : (tags : List (Option InFlight)) (tag : ℕ)
     → get_or (freed tags) tag None ≡ None
 all_free [] tag = refl
 all_free (here ∷ tags) zero = refl
 all_free (here ∷ tags) (suc tag) = all_free tags tag
 
-dropped_at : (host : Option HostDisk) (tag : ℕ)
-    → get_or (tags_in (with_tags (freed (tags_in host)) host)) tag None ≡ None
-dropped_at None tag = refl
-dropped_at (Some disk) tag = all_free disk.tags tag
+abbrev TagIn : HostedQueue → ℕ → Option InFlight
+TagIn q tag = get_or q.tags tag None
 
-free_way : {A : Type 0} (old : SlotState) (tag : ℕ) (what : EventKind A) (before : Health) (outcome : Outcome A)
-    → old.on_hold ≡ true → told_in what ≢ Some Release → TagIn old tag ≡ None
-    → Way (λ (o : Outcome A). MayGiveOverImage old what before before o) old what outcome
-    → TagIn outcome.state tag ≡ None
-free_way {A} old tag what before outcome on_hold other free (Waits waits h) =
-    same_host old outcome.state tag (ap (λ (o : Outcome A). o.state.host) h) free
-free_way old tag what before outcome on_hold other free (Passes own calm quiet h) =
-    same_host old outcome.state tag (given_fixed old what before before outcome h).host free
-free_way old tag what before outcome on_hold other free (Looks rings looks h) =
-    looked_free (readied what old) outcome.state tag ((readied_fixed what old).on_hold tt ∙ on_hold) looks
-    (same_host old (readied what old) tag (readied_fixed what old).host free)
-free_way {A} old tag what before outcome on_hold other free (Rests said is h) =
-    same_host old outcome.state tag (ap (λ (o : Outcome A). o.state.host) h) free
-free_way old tag what before outcome on_hold other free (Lands its verdict is completes h) =
-    landing_free tag its verdict old outcome.state completes on_hold free
-free_way {A} old tag what before outcome on_hold other free (Drops is h) =
-    ap (λ (o : Outcome A). TagIn o.state tag) h ∙ dropped_at old.host tag
-free_way {A} old tag what before outcome on_hold other free (Holds is h) =
-    same_host old outcome.state tag (ap (λ (o : Outcome A). o.state.host) h) free
-free_way old tag what before outcome on_hold other free (Releases is looks h) = absurd (other is)
+-- a landing frees its tag and no other
+landing_free : (tag its : ℕ) (verdict : Verdict) (q landed q' : HostedQueue) → IsLanding its verdict q landed
+    → q' ≡ landed → TagIn q tag ≡ None → TagIn q' tag ≡ None
+landing_free tag its verdict q landed q' lands still free =
+    ap (λ (l : HostedQueue). TagIn l tag) still
+    ∙ elim (cases_eq tag its) [
+      | inl same ↦ ap (λ k. TagIn landed k) same ∙ landed_free its verdict q landed lands
+      | inr apart ↦ landed_others its tag verdict q landed lands apart ∙ free
+    ]
 
-pub hold_free : {A : Type 0} (old : SlotState) (tag : ℕ) (what : EventKind A) (before after : Health)
-    (outcome : Outcome A) → old.on_hold ≡ true → told_in what ≢ Some Release
-    → get_or (tags_in old.host) tag None ≡ None → MayGive old what before after outcome
-    → get_or (tags_in outcome.state.host) tag None ≡ None
-hold_free old tag what before after outcome on_hold other free h =
-    by_disk old.host old what before after outcome
-    (λ given. same_host old outcome.state tag (given_fixed old what before after outcome given).host free)
-    (λ image ways. free_way old tag what before outcome on_hold other free ways) h
+-- what the host says of a queue on hold leaves its free tags, but for a release
+word_free : (found : Option HostEvent) (said : HostEvent) (tag : ℕ) (device : BlockDevice) (q q' : HostedQueue)
+    → found ≡ Some said → found ≢ Some Release → QueueTold said device true q q' → TagIn q tag ≡ None
+    → TagIn q' tag ≡ None
+word_free found (Complete its verdict) tag device q q' is other told free =
+    landing_free tag its verdict q told.landed q' told.lands told.looks free
+word_free found Drop tag device q q' is other told free =
+    ap (λ (l : HostedQueue). TagIn l tag) told ∙ all_free q.tags tag
+word_free found Hold tag device q q' is other told free = ap (λ (l : HostedQueue). TagIn l tag) told ∙ free
+word_free found Release tag device q q' is other told free = absurd (other is)
 
--- ---- it stays
+word_holds : (found : Option HostEvent) (said : HostEvent) (on_hold : Bool) → found ≡ Some said
+    → found ≢ Some Release → on_hold ≡ true → held_by said on_hold ≡ true
+word_holds found Hold on_hold is other holds = refl
+word_holds found Release on_hold is other holds = absurd (other is)
+word_holds found _ on_hold is other holds = holds
 
-stays_way : {A : Type 0} (old : SlotState) (what : EventKind A) (before : Health) (outcome : Outcome A)
-    → old.on_hold ≡ true → told_in what ≢ Some Release → IsNoRestore what
-    → Way (λ (o : Outcome A). MayGiveOverImage old what before before o) old what outcome
-    → outcome.state.on_hold ≡ true
-stays_way old what before outcome on_hold other keeps (Waits waits h) = ap (λ o. o.state.on_hold) h ∙ on_hold
-stays_way old what before outcome on_hold other keeps (Passes own calm quiet h) =
-    (given_fixed old what before before outcome h).on_hold keeps ∙ on_hold
-stays_way old what before outcome on_hold other keeps (Looks rings looks h) =
-    ap (λ (s : SlotState). s.on_hold) looks.rest ∙ ((readied_fixed what old).on_hold tt ∙ on_hold)
-stays_way old what before outcome on_hold other keeps (Rests said is h) = ap (λ o. o.state.on_hold) h ∙ on_hold
-stays_way old what before outcome on_hold other keeps (Lands its verdict is completes h) =
-    ap (λ (s : SlotState). s.on_hold) completes.looks.rest
-    ∙ (ap (λ (s : SlotState). s.on_hold) completes.lands.rest ∙ on_hold)
-stays_way old what before outcome on_hold other keeps (Drops is h) = ap (λ o. o.state.on_hold) h ∙ on_hold
-stays_way {A} old what before outcome on_hold other keeps (Holds is h) = ap (λ (o : Outcome A). o.state.on_hold) h
-stays_way old what before outcome on_hold other keeps (Releases is looks h) = absurd (other is)
+module _ {A : Type 0} (disk : SlotDisk) (old : SlotState) (what : EventKind A) where
+  free_from : (tag : ℕ) (new : SlotState) → on_hold_of disk old ≡ true → said_of disk what ≢ Some Release
+      → get_or (in_flight_of disk old) tag None ≡ None → StepsTo disk what old new
+      → get_or (in_flight_of disk new) tag None ≡ None
+  free_from tag new on_hold other free (Stays tags still) = ap (λ l. get_or l tag None) tags ∙ free
+  free_from tag new on_hold other free (Retakes restores tags) = ap (λ l. get_or l tag None) tags ∙ free
+  free_from tag new on_hold other free (Comes none never) =
+      let clash : false ≡ true = sym never ∙ on_hold in absurd (cc clash)
+  free_from tag new on_hold other free (IsLooked device q q' looks from to still) =
+      let same : q' ≡ q = subst (λ (b : Bool). LooksUnless b device q q') on_hold looks in
+      ap (λ l. get_or l tag None) to
+      ∙ (ap (λ (l : HostedQueue). TagIn l tag) same ∙ (ap (λ l. get_or l tag None) from ∙ free))
+  free_from tag new on_hold other free (IsTold said is device q q' told from to still) =
+      ap (λ l. get_or l tag None) to
+      ∙ word_free (said_of disk what) said tag device q q' is other
+      (subst (λ (b : Bool). QueueTold said device b q q') on_hold told)
+      (ap (λ l. get_or l tag None) from ∙ free)
 
-pub hold_stays : {A : Type 0} (old : SlotState) (what : EventKind A) (before after : Health) (outcome : Outcome A)
-    → old.on_hold ≡ true → told_in what ≢ Some Release → IsNoRestore what → MayGive old what before after outcome
-    → outcome.state.on_hold ≡ true
-hold_stays old what before after outcome on_hold other keeps h =
-    by_disk old.host old what before after outcome
-    (λ given. (given_fixed old what before after outcome given).on_hold keeps ∙ on_hold)
-    (λ image ways. stays_way old what before outcome on_hold other keeps ways) h
+  pub hold_free : (tag : ℕ) (before after : Health) (outcome : Outcome A) → on_hold_of disk old ≡ true
+      → said_of disk what ≢ Some Release → get_or (in_flight_of disk old) tag None ≡ None
+      → MayGive old what before after outcome → get_or (in_flight_of disk outcome.state) tag None ≡ None
+  hold_free tag before after outcome on_hold other free h =
+      free_from tag outcome.state on_hold other free (steps disk what old before after outcome h)
+
+  -- ---- it stays
+
+  stays_by : (new : SlotState) → on_hold_of disk old ≡ true → said_of disk what ≢ Some Release → IsNoRestore what
+      → StepsTo disk what old new → on_hold_of disk new ≡ true
+  stays_by new on_hold other keeps (Stays tags still) = still ∙ on_hold
+  stays_by new on_hold other keeps (Retakes restores tags) = absurd (restores keeps)
+  stays_by new on_hold other keeps (Comes none never) =
+      let clash : false ≡ true = sym never ∙ on_hold in absurd (cc clash)
+  stays_by new on_hold other keeps (IsLooked device q q' looks from to still) = still ∙ on_hold
+  stays_by new on_hold other keeps (IsTold said is device q q' told from to still) =
+      still ∙ word_holds (said_of disk what) said (on_hold_of disk old) is other on_hold
+
+  pub hold_stays : (before after : Health) (outcome : Outcome A) → on_hold_of disk old ≡ true
+      → said_of disk what ≢ Some Release → IsNoRestore what → MayGive old what before after outcome
+      → on_hold_of disk outcome.state ≡ true
+  hold_stays before after outcome on_hold other keeps h =
+      stays_by outcome.state on_hold other keeps (steps disk what old before after outcome h)
 
 -- ---- a release
 

@@ -23,13 +23,13 @@ use Rattle.block_device.specs.Operation.{operation_of, runs_for}
 use Rattle.block_device.proofs.Unasked.{any_disk, honest_host_serves}
 use Rattle.board.specs.declared.event.EventKind.{EventKind}
 use Rattle.board.specs.declared.reply.Record.{Record}
-use Rattle.board.specs.Backing.{tags_in}
 use Rattle.board.specs.Honest.{IsFlown, IsHonestlyServed}
-use Rattle.board.specs.Hosting.{hosted_queue, LeavesTag}
+use Rattle.board.specs.HostedDisks.{LeavesTagOf, SlotDisk, in_flight_of, unit_queue}
 use Rattle.board.specs.Line.{MayBeTold}
 use Rattle.board.specs.Slot.{SlotState}
 use Rattle.board.specs.Steps.{IsAnsweredBy}
 use Rattle.hosted_disk.proofs.Looking.{KeepsTag, from_left, keeps_tag}
+use Rattle.board.proofs.HostedDisks.{unit_tags}
 use Rattle.board.proofs.Waiting.{outlasts}
 
 -- ---- the chain as it asked
@@ -135,19 +135,19 @@ asked_in device stage old (there ∷ asked) new tag here looks free takes =
 -- ---- up to its completion
 
 -- whatever came between, the tag is of the same operation
-life_keeps : {A : Type 0} (tag : ℕ) (here : InFlight) (old : SlotState) (events : List (EventKind A))
-    (records : List (Record A)) (last : SlotState) → get_or (tags_in old.host) tag None ≡ Some here
-    → All (LeavesTag {A = A} tag) events
-    → IsAnsweredBy (MayBeTold 0) old events records last → get_or (tags_in last.host) tag None ≡ Some here
-life_keeps tag here old [] [] last taken others course =
-    ap (λ (s : SlotState). get_or (tags_in s.host) tag None) course ∙ taken
-life_keeps tag here old [] (t ∷ records) last taken others course = absurd course
-life_keeps tag here old (event ∷ events) [] last taken others course = absurd course
-life_keeps {A} tag here old (event ∷ events) (t ∷ records) last taken others course =
+life_keeps : {A : Type 0} (disk : SlotDisk) (tag : ℕ) (here : InFlight) (old : SlotState) (events : List (EventKind A))
+    (records : List (Record A)) (last : SlotState) → get_or (in_flight_of disk old) tag None ≡ Some here
+    → All (LeavesTagOf {A = A} disk tag) events
+    → IsAnsweredBy (MayBeTold 0) old events records last → get_or (in_flight_of disk last) tag None ≡ Some here
+life_keeps disk tag here old [] [] last taken others course =
+    ap (λ (s : SlotState). get_or (in_flight_of disk s) tag None) course ∙ taken
+life_keeps disk tag here old [] (t ∷ records) last taken others course = absurd course
+life_keeps disk tag here old (event ∷ events) [] last taken others course = absurd course
+life_keeps {A} disk tag here old (event ∷ events) (t ∷ records) last taken others course =
     let told = course.1 in
-    let Other : EventKind A → Type 0 = LeavesTag tag in
-    life_keeps tag here told.outcome.state events records last
-    (outlasts old tag here event told.before told.behind told.outcome taken (All-head Other event events others)
+    let Other : EventKind A → Type 0 = LeavesTagOf disk tag in
+    life_keeps disk tag here told.outcome.state events records last
+    (outlasts disk old tag here event told.before told.behind told.outcome taken (All-head Other event events others)
     told.given)
     (All-tail Other event events others)
     (subst (λ (s : SlotState). IsAnsweredBy (MayBeTold 0) s events records last) told.left course.2)
@@ -167,16 +167,19 @@ completed_here tag here verdict queue old new ready taken lands =
     (given_back (queue_at 0 old.window) queue tag here verdict old new ready
     (subst (λ (h : InFlight). LandsBy (queue_at 0 old.window) tag h verdict old new) same lands.lands)).completes
 
-pub honest : {A : Type 0} (device : BlockDevice) (began : HostedQueue) (tag : ℕ) (here : InFlight)
+pub honest : {A : Type 0} (disk : SlotDisk) (device : BlockDevice) (began : HostedQueue) (tag : ℕ) (here : InFlight)
     (now : SlotState) (verdict : Verdict) (new : HostedQueue)
-    (flown : IsFlown A device began tag here now verdict new)
-    → IsHonestlyServed device began tag here now verdict new flown
-honest device began tag here now verdict new flown =
-    let a = asked_in device First began flown.looks.asked (hosted_queue flown.asking) tag here flown.looks.looks
-    flown.free flown.takes in
-    let taken = life_keeps tag here flown.asking flown.events flown.records now flown.takes flown.others
+    (flown : IsFlown A disk device began tag here now verdict new)
+    → IsHonestlyServed disk device began tag here now verdict new flown
+honest disk device began tag here now verdict new flown =
+    let asking = unit_queue flown.asking.memory flown.first in
+    let landing = unit_queue now.memory flown.last in
+    let a = asked_in device First began flown.looks.asked asking tag here flown.looks.looks flown.free
+    (ap (λ l. get_or l tag None) (unit_tags disk flown.asking flown.first flown.asked_of) ∙ flown.takes) in
+    let taken = life_keeps disk tag here flown.asking flown.events flown.records now flown.takes flown.others
     flown.course in
-    let completes = completed_here tag here verdict flown.queue (hosted_queue now) new flown.ready taken flown.lands in
+    let completes = completed_here tag here verdict flown.queue landing new flown.ready
+    (ap (λ l. get_or l tag None) (unit_tags disk now flown.last flown.completed_of) ∙ taken) flown.lands in
     record {
       asked = a.asked;
       buffers = a.buffers;
@@ -185,7 +188,7 @@ honest device began tag here now verdict new flown =
       operation = a.operation;
       runs = a.runs;
       completes = completes;
-      serves = λ disk disk' found ends long stands.
-          honest_host_serves device a.asked now.memory completes.given completes.queue completes.behind disk disk'
-          a.buffers found here.flight verdict a.request a.asks a.status ends long stands completes.gives;
+      serves = λ contents contents' found ends long stands.
+          honest_host_serves device a.asked now.memory completes.given completes.queue completes.behind contents
+          contents' a.buffers found here.flight verdict a.request a.asks a.status ends long stands completes.gives;
     }

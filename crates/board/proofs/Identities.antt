@@ -1,5 +1,5 @@
 -- What no event changes: an identity, and over an image who has a guest's disk. Only a restore changes whether the
--- slot is on hold.
+-- slot is on hold, and only that and what is done to them the further devices.
 use Rattle.std.proofs.Common.{◌≡◌, inl, inr, ℕ, List, [], ◌∷◌, refl, sym, ap, ◌∙◌}
 use Rattle.std.specs.Prelude.{⊤}
 use Rattle.std.proofs.Math.Seq.{map-set_same}
@@ -29,83 +29,100 @@ use Rattle.board.specs.World.{MayGiveOverImage}
 use Rattle.board.proofs.Seats.{by_slot}
 use Rattle.board.proofs.Ways.{Drops, Holds, Lands, Looks, Passes, Releases, Rests, Waits, Way, by_disk}
 
--- both stay, and whether the slot is on hold, where the event keeps that
-pub record Fixed (Keeps : Type 0) (old new : SlotState) : Type 0 where
+-- an event that does nothing to a further device
+abbrev pub IsBesideDevices : {A : Type 0} → EventKind A → Type 0
+IsBesideDevices (Restore bytes) = ⊥
+IsBesideDevices (Device n what) = ⊥
+IsBesideDevices what = ⊤
+
+-- both stay, and whether the slot is on hold, and the further devices, where the event keeps those
+pub record Fixed (Keeps Beside : Type 0) (old new : SlotState) : Type 0 where
   pub identity : new.identity ≡ old.identity
   pub host : new.host ≡ old.host
   pub on_hold : Keeps → new.on_hold ≡ old.on_hold
+  pub devices : Beside → new.devices ≡ old.devices
 
 -- an outcome that is this one has them
-fixed : {A Keeps : Type 0} (state : SlotState) (outcome wanted : Outcome A) → outcome ≡ wanted
+fixed : {A Keeps Beside : Type 0} (state : SlotState) (outcome wanted : Outcome A) → outcome ≡ wanted
     → wanted.state.identity ≡ state.identity → wanted.state.host ≡ state.host
-    → wanted.state.on_hold ≡ state.on_hold → Fixed Keeps state outcome.state
-fixed {A} state outcome wanted is identity host on_hold = record {
+    → wanted.state.on_hold ≡ state.on_hold → (Beside → wanted.state.devices ≡ state.devices)
+    → Fixed Keeps Beside state outcome.state
+fixed {A} state outcome wanted is identity host on_hold devices = record {
   identity = ap (λ (o : Outcome A). o.state.identity) is ∙ identity;
   host = ap (λ (o : Outcome A). o.state.host) is ∙ host;
   on_hold = λ keeps. ap (λ (o : Outcome A). o.state.on_hold) is ∙ on_hold;
+  devices = λ beside. ap (λ (o : Outcome A). o.state.devices) is ∙ devices beside;
 }
 
-same : {Keeps : Type 0} (state : SlotState) → Fixed Keeps state state
-same state = record { identity = refl; host = refl; on_hold = λ keeps. refl }
+-- where they are the same to the letter
+alike : {Keeps Beside : Type 0} (state new : SlotState) → new.identity ≡ state.identity → new.host ≡ state.host
+    → new.on_hold ≡ state.on_hold → new.devices ≡ state.devices → Fixed Keeps Beside state new
+alike state new identity host on_hold devices =
+    record { identity = identity; host = host; on_hold = λ keeps. on_hold; devices = λ beside. devices }
 
 -- a write of a window's registers
-write_fixed : {Keeps : Type 0} (window : SlotWindow) (offset width value : ℕ) (state : SlotState)
-    → Fixed Keeps state (with_write window offset width value state)
-write_fixed Block offset width value state = record { identity = refl; host = refl; on_hold = λ keeps. refl }
-write_fixed Console offset width value state = record { identity = refl; host = refl; on_hold = λ keeps. refl }
+write_fixed : {Keeps Beside : Type 0} (window : SlotWindow) (offset width value : ℕ) (state : SlotState)
+    → Fixed Keeps Beside state (with_write window offset width value state)
+write_fixed Block offset width value state = alike state _ refl refl refl refl
+write_fixed Console offset width value state = alike state _ refl refl refl refl
 
-pub readied_fixed : {A : Type 0} (what : EventKind A) (state : SlotState) → Fixed ⊤ state (readied what state)
+pub readied_fixed : {A : Type 0} (what : EventKind A) (state : SlotState) → Fixed ⊤ ⊤ state (readied what state)
 readied_fixed (Write window offset width value) state = write_fixed window offset width value state
-readied_fixed _ state = record { identity = refl; host = refl; on_hold = λ keeps. refl }
+readied_fixed _ state = alike state _ refl refl refl refl
 
-behind : {Keeps : Type 0} (a b c : SlotState) → Fixed Keeps a b → Fixed Keeps b c → Fixed Keeps a c
+behind : {Keeps Beside : Type 0} (a b c : SlotState) → Fixed Keeps Beside a b → Fixed Keeps Beside b c
+    → Fixed Keeps Beside a c
 behind a b c x y = record {
   identity = y.identity ∙ x.identity;
   host = y.host ∙ x.host;
   on_hold = λ keeps. y.on_hold keeps ∙ x.on_hold keeps;
+  devices = λ beside. y.devices beside ∙ x.devices beside;
 }
 
 -- what a device does then, where nothing is refused
-finished_fixed : {A Keeps : Type 0} (task : Task) (state : SlotState) (old new : Health) (outcome : Outcome A)
-    → Finishes task state old new outcome → Fixed Keeps state outcome.state
-finished_fixed Nothing state old new outcome h = fixed state outcome _ h.alike refl refl refl
-finished_fixed (PutOut byte) state old new outcome h = fixed state outcome _ h.alike refl refl refl
-finished_fixed (Serve service.Block) state old new outcome h = fixed state outcome _ h.is refl refl refl
-finished_fixed _ state old new outcome h = fixed state outcome _ h.is refl refl refl
+finished_fixed : {A Keeps Beside : Type 0} (task : Task) (state : SlotState) (old new : Health) (outcome : Outcome A)
+    → Finishes task state old new outcome → Fixed Keeps Beside state outcome.state
+finished_fixed Nothing state old new outcome h = fixed state outcome _ h.alike refl refl refl (λ beside. refl)
+finished_fixed (PutOut byte) state old new outcome h = fixed state outcome _ h.alike refl refl refl (λ beside. refl)
+finished_fixed (Serve service.Block) state old new outcome h =
+    fixed state outcome _ h.is refl refl refl (λ beside. refl)
+finished_fixed _ state old new outcome h = fixed state outcome _ h.is refl refl refl (λ beside. refl)
 
 -- an event of a slot over an image
 served_fixed : {A : Type 0} (state : SlotState) (what : EventKind A) (old new : Health) (outcome : Outcome A)
-    → GivesOverImage state what old new outcome → Fixed (IsNoRestore what) state outcome.state
+    → GivesOverImage state what old new outcome → Fixed (IsNoRestore what) (IsBesideDevices what) state outcome.state
 served_fixed state (Write window offset width value) old new outcome h =
     behind state (with_write window offset width value state) outcome.state
     (write_fixed window offset width value state)
     (finished_fixed (task_at window offset width value state) (with_write window offset width value state) old
     new outcome h)
 served_fixed {A} state (MemRead addr len) old new outcome h =
-    of_read (λ (o : Outcome A). Fixed ⊤ state o.state) state addr len outcome h.alike (same state) (same state)
+    of_read (λ (o : Outcome A). Fixed ⊤ ⊤ state o.state) state addr len outcome h.alike
+    (alike state state refl refl refl refl) (alike state state refl refl refl refl)
 served_fixed {A} state (MemWrite addr bytes) old new outcome h =
-    of_write (λ (o : Outcome A). Fixed ⊤ state o.state) state addr bytes outcome h.alike
-    (record { identity = refl; host = refl; on_hold = λ keeps. refl }) (same state)
-served_fixed state (Input bytes) old new outcome h = fixed state outcome _ h.is refl refl refl
+    of_write (λ (o : Outcome A). Fixed ⊤ ⊤ state o.state) state addr bytes outcome h.alike
+    (alike state _ refl refl refl refl) (alike state state refl refl refl refl)
+served_fixed state (Input bytes) old new outcome h = fixed state outcome _ h.is refl refl refl (λ beside. refl)
 served_fixed state (Restore bytes) old new outcome h = record {
   identity = restored_named (are_at_work state.devices) state bytes outcome h.alike;
   host = restored_host (are_at_work state.devices) state bytes outcome h.alike;
   on_hold = λ keeps. absurd keeps;
+  devices = λ beside. absurd beside;
 }
 served_fixed state (Device n what) old new outcome h =
-    fixed state outcome _ (device_rest n what state old new outcome h) refl refl refl
-served_fixed state _ old new outcome h = fixed state outcome _ h.alike refl refl refl
+    fixed state outcome _ (device_rest n what state old new outcome h) refl refl refl (λ beside. absurd beside)
+served_fixed state _ old new outcome h = fixed state outcome _ h.alike refl refl refl (λ beside. refl)
 
 pub given_fixed : {A : Type 0} (state : SlotState) (what : EventKind A) (old new : Health)
     (outcome : Outcome A) → MayGiveOverImage state what old new outcome
-    → Fixed (IsNoRestore what) state outcome.state
+    → Fixed (IsNoRestore what) (IsBesideDevices what) state outcome.state
 given_fixed state what old new outcome (inl h) = served_fixed state what old new outcome h.alike
 given_fixed state what old new outcome (inr h) =
     elim (was_refused state what old new outcome h) [
-      | Failed block h ↦ fixed state outcome _ h.service.is refl refl refl
-      | Unsent console puts h ↦ fixed state outcome _ h.is refl refl refl
-      | Unput console puts h ↦ fixed state outcome _ h.alike refl refl refl
-      | Unread is h ↦ fixed state outcome _ h.alike refl refl refl
+      | Failed block h ↦ fixed state outcome _ h.service.is refl refl refl (λ beside. refl)
+      | Unsent console puts h ↦ fixed state outcome _ h.is refl refl refl (λ beside. refl)
+      | Unput console puts h ↦ fixed state outcome _ h.alike refl refl refl (λ beside. refl)
+      | Unread is h ↦ fixed state outcome _ h.alike refl refl refl (λ beside. refl)
     ]
 
 -- ---- a guest whose disk the host serves

@@ -1,7 +1,8 @@
 -- What a guest was told OK of is on the medium of a host that keeps its word.
-use Rattle.std.proofs.Common.{◌≡◌, ◌≢◌, ◌↔◌, inl, inr, ◌<◌, ℕ, zero, suc, ◌+◌, ◌-◌, Bool, true, false, Option, Some, None, List, [], ◌∷◌, ◌++◌, length, take, drop, get_or, map, refl, sym, ap, subst, ◌∙◌, arith}
+use Rattle.std.proofs.Common.{◌≡◌, ◌≢◌, ◌↔◌, inl, inr, ◌<◌, ℕ, zero, suc, ◌+◌, ◌-◌, true, false, Option, Some, None, List, [], ◌∷◌, ◌++◌, length, take, drop, get_or, map, refl, sym, ap, subst, ◌∙◌, arith}
 use Rattle.std.specs.List.{slice_get}
 use Rattle.std.specs.Option.{option_and_then}
+use Rattle.std.specs.Prelude.{is_some}
 use Rattle.std.proofs.lemmas.Bool.Decides.{eqb_tells}
 use Rattle.std.proofs.lemmas.Option.{same_Some}
 use Rattle.guest_memory.specs.Memory.{Inside, Memory, part_of, put}
@@ -28,17 +29,18 @@ use Rattle.board.specs.declared.event.EventKind.{EventKind}
 use Rattle.block_device.specs.declared.operation.HostEvent.{HostEvent}
 use Rattle.block_device.specs.declared.operation.HostEvent.TheVariants.{Complete, Drop, Hold, Release}
 use Rattle.board.specs.declared.reply.Record.{Record}
-use Rattle.board.specs.Backing.{HostDisk, tags_in}
-use Rattle.board.specs.Hosting.{CompletesTag, CompletionGives, DropGives, HostGives, HostOrGives, LeavesTag, dropped, hosted_queue, tag_of, told_in}
+use Rattle.board.specs.HostedDisks.{DiskUnit, DoesAsSaid, LeavesTagOf, SlotDisk, in_flight_of, said_of, unit_at, unit_queue}
+use Rattle.board.specs.Hosting.{tag_of}
 use Rattle.board.specs.Image.{Health}
 use Rattle.board.specs.Lasting.{Becomes, Completed, GivenUp, HasCourse, IsAnswered, IsCourse, Passage, Standing, Stays, behind, behind_all, completed, completed_in, completions, covers, said_by}
 use Rattle.board.specs.Line.{IsLine, MayBeTold, Move}
 use Rattle.board.specs.Outcome.{Outcome}
 use Rattle.board.specs.Slot.{SlotState}
 use Rattle.board.specs.Steps.{IsAnsweredBy}
-use Rattle.board.specs.World.{MayGive, MayGiveBy, MayGiveOverImage, World}
+use Rattle.board.specs.World.{MayGive, World}
 use Rattle.board.proofs.Alone.{alone_as_it_may}
 use Rattle.board.proofs.Honest.{given_back}
+use Rattle.board.proofs.HostedDisks.{found, says, unit_tags}
 use Rattle.board.proofs.Waiting.{outlasts}
 
 -- ---- what is served at once
@@ -73,77 +75,61 @@ any_taken (None ∷ tags) zero here there = absurd (cc there)
 any_taken (None ∷ tags) (suc tag) here there = any_taken tags tag here there
 
 -- an event leaves such a chain, is its completion, or is a drop
-data Ending {A : Type 0} (tag : ℕ) (what : EventKind A) : Type 0 where
-  Leaves : LeavesTag tag what → Ending tag what
-  Its : (verdict : Verdict) → told_in what ≡ Some (Complete tag verdict) → Ending tag what
-  Drops : told_in what ≡ Some Drop → Ending tag what
+data Ending {A : Type 0} (disk : SlotDisk) (tag : ℕ) (what : EventKind A) : Type 0 where
+  Leaves : LeavesTagOf disk tag what → Ending disk tag what
+  Its : (verdict : Verdict) → said_of disk what ≡ Some (Complete tag verdict) → Ending disk tag what
+  Drops : said_of disk what ≡ Some Drop → Ending disk tag what
 
-leaves : {A : Type 0} (tag : ℕ) (what : EventKind A) (found : Option HostEvent) → told_in what ≡ found
-    → option_and_then tag_of found ≢ Some tag → found ≢ Some Drop → LeavesTag tag what
-leaves tag what found is other no_drop = record {
+leaves : {A : Type 0} (disk : SlotDisk) (tag : ℕ) (what : EventKind A) (found : Option HostEvent)
+    → said_of disk what ≡ found → option_and_then tag_of found ≢ Some tag → found ≢ Some Drop
+    → LeavesTagOf disk tag what
+leaves disk tag what found is other no_drop = record {
   other = λ same. other (ap (option_and_then tag_of) (sym is) ∙ same);
   no_drop = λ same. no_drop (sym is ∙ same);
 }
 
-ending_by : {A : Type 0} (tag : ℕ) (what : EventKind A) (found : Option HostEvent) → told_in what ≡ found
-    → Ending tag what
-ending_by tag what None is =
-    Leaves (leaves tag what None is (λ same. absurd (cc same)) (λ same. absurd (cc same)))
-ending_by tag what (Some (Complete its verdict)) is =
+ending_by : {A : Type 0} (disk : SlotDisk) (tag : ℕ) (what : EventKind A) (found : Option HostEvent)
+    → said_of disk what ≡ found → Ending disk tag what
+ending_by disk tag what None is =
+    Leaves (leaves disk tag what None is (λ same. absurd (cc same)) (λ same. absurd (cc same)))
+ending_by disk tag what (Some (Complete its verdict)) is =
     elim (eqb_tells its tag) [
       | inl same ↦ Its verdict (is ∙ ap (λ (t : ℕ). Some (Complete t verdict)) same.1)
       | inr other ↦
-          Leaves (leaves tag what (Some (Complete its verdict)) is
+          Leaves (leaves disk tag what (Some (Complete its verdict)) is
           (λ same. other.1 (same_Some its tag same)) (λ same. absurd (cc same)))
     ]
-ending_by tag what (Some Drop) is = Drops is
-ending_by tag what (Some Hold) is =
-    Leaves (leaves tag what (Some Hold) is (λ same. absurd (cc same)) (λ same. absurd (cc same)))
-ending_by tag what (Some Release) is =
-    Leaves (leaves tag what (Some Release) is (λ same. absurd (cc same)) (λ same. absurd (cc same)))
+ending_by disk tag what (Some Drop) is = Drops is
+ending_by disk tag what (Some Hold) is =
+    Leaves (leaves disk tag what (Some Hold) is (λ same. absurd (cc same)) (λ same. absurd (cc same)))
+ending_by disk tag what (Some Release) is =
+    Leaves (leaves disk tag what (Some Release) is (λ same. absurd (cc same)) (λ same. absurd (cc same)))
 
-by_completion : {A : Type 0} (found : Option InFlight) (tag : ℕ) (verdict : Verdict) (here : InFlight)
-    (old : SlotState) (outcome : Outcome A) → found ≡ Some here → CompletionGives found tag verdict old outcome
-    → CompletesTag tag verdict old outcome.state
-by_completion None tag verdict here old outcome is h = absurd (cc is)
-by_completion (Some there) tag verdict here old outcome is h = h.0
+-- the completion of what is there is done
+completes_by : {A : Type 0} (disk : SlotDisk) (old : SlotState) (unit : DiskUnit) (tag : ℕ) (here : InFlight)
+    (what : EventKind A) (before after : Health) (outcome : Outcome A) (verdict : Verdict)
+    → unit_at disk old ≡ Some unit → get_or (in_flight_of disk old) tag None ≡ Some here
+    → said_of disk what ≡ Some (Complete tag verdict) → MayGive old what before after outcome
+    → DoesAsSaid disk (Complete tag verdict) old outcome.state
+completes_by disk old unit tag here what before after outcome verdict there taken is h =
+    says disk old unit (Complete tag verdict) what before after outcome there
+    (ap (λ (l : List (Option InFlight)). is_some (get_or l tag None)) (unit_tags disk old unit there)
+    ∙ ap is_some taken) is h
 
-by_drop : {A : Type 0} (any : Bool) (old : SlotState) (outcome : Outcome A) → any ≡ true
-    → DropGives any old outcome → outcome.state ≡ dropped old
-by_drop false old outcome is h = absurd (cc is)
-by_drop {A} true old outcome is h = ap (λ (o : Outcome A). o.state) h
-
--- what the host says comes to
-said_gives : {A : Type 0} (host : Option HostDisk) (old : SlotState) (tag : ℕ) (here : InFlight)
-    (what : EventKind A) (before after : Health) (outcome : Outcome A) (said : HostEvent) → host ≡ old.host
-    → get_or (tags_in old.host) tag None ≡ Some here → told_in what ≡ Some said
-    → MayGiveBy host old what before after outcome → HostGives said old outcome
-said_gives None old tag here what before after outcome said same there is h =
-    let clash : None ≡ Some here = ap (λ (d : Option HostDisk). get_or (tags_in d) tag None) same ∙ there in
-    absurd (cc clash)
-said_gives {A} (Some disk) old tag here what before after outcome said same there is h =
-    let Beside : Outcome A → Type 0 = λ (o : Outcome A). MayGiveOverImage old what before before o in
-    subst (λ (found : Option HostEvent). HostOrGives Beside found old what outcome) is h.gives
-
-completes_by : {A : Type 0} (old : SlotState) (tag : ℕ) (here : InFlight) (what : EventKind A)
-    (before after : Health) (outcome : Outcome A) (verdict : Verdict)
-    → get_or (tags_in old.host) tag None ≡ Some here → told_in what ≡ Some (Complete tag verdict)
-    → MayGive old what before after outcome → CompletesTag tag verdict old outcome.state
-completes_by old tag here what before after outcome verdict there is h =
-    by_completion (get_or (tags_in old.host) tag None) tag verdict here old outcome there
-    (said_gives old.host old tag here what before after outcome (Complete tag verdict) refl there is h)
-
-pub becomes : {A : Type 0} (old : SlotState) (tag : ℕ) (here : InFlight) (what : EventKind A)
-    (before after : Health) (outcome : Outcome A) → get_or (tags_in old.host) tag None ≡ Some here
-    → MayGive old what before after outcome → Becomes tag here old what outcome.state
-becomes old tag here what before after outcome there h =
-    elim (ending_by tag what (told_in what) refl) [
-      | Leaves other ↦ Stays (outlasts old tag here what before after outcome there other h)
-      | Its verdict is ↦ Completed verdict is (completes_by old tag here what before after outcome verdict there is h)
+pub becomes : {A : Type 0} (disk : SlotDisk) (old : SlotState) (tag : ℕ) (here : InFlight) (what : EventKind A)
+    (before after : Health) (outcome : Outcome A) → get_or (in_flight_of disk old) tag None ≡ Some here
+    → MayGive old what before after outcome → Becomes disk tag here old what outcome.state
+becomes disk old tag here what before after outcome taken h =
+    let unit = found disk old tag here taken in
+    elim (ending_by disk tag what (said_of disk what) refl) [
+      | Leaves other ↦ Stays (outlasts disk old tag here what before after outcome taken other h)
+      | Its verdict is ↦
+          Completed verdict is
+          (completes_by disk old unit.unit tag here what before after outcome verdict unit.there taken is h)
       | Drops is ↦
           GivenUp is
-          (by_drop (is_any (tags_in old.host)) old outcome (any_taken (tags_in old.host) tag here there)
-          (said_gives old.host old tag here what before after outcome Drop refl there is h))
+          (says disk old unit.unit Drop what before after outcome unit.there
+          (ap is_any (unit_tags disk old unit.unit unit.there) ∙ any_taken (in_flight_of disk old) tag here taken) is h)
     ]
 
 -- ---- the status that the guest reads
@@ -163,8 +149,8 @@ reads_put m a x inside =
     ∙ read_there m.bytes (drop (a - m.base + 1) m.bytes) (a - m.base) (length m.bytes) x within within
 
 -- it is the one by which the host completed the operation
-module _ {A : Type 0} (tag : ℕ) (here : InFlight) (old : SlotState) (what : EventKind A) (status : ℕ)
-    (new : SlotState) (answered : IsAnswered tag here old what status new) where
+module _ {A : Type 0} (disk : SlotDisk) (tag : ℕ) (here : InFlight) (old : SlotState) (what : EventKind A) (status : ℕ)
+    (new : SlotState) (answered : IsAnswered disk tag here old what status new) where
   its_status : status ≡ code_of (status_by answered.verdict)
   its_status =
       let code = code_of (status_by answered.verdict) in
@@ -175,7 +161,7 @@ module _ {A : Type 0} (tag : ℕ) (here : InFlight) (old : SlotState) (what : Ev
       cc same
 
   pub told_by : (verdict : Verdict)
-      → (told_in what ≡ Some (Complete tag verdict)) ↔ (status ≡ code_of (status_by verdict))
+      → (said_of disk what ≡ Some (Complete tag verdict)) ↔ (status ≡ code_of (status_by verdict))
   told_by verdict = (
     λ is. its_status ∙ ap (λ (v : Verdict). code_of (status_by v)) (same_verdict (sym answered.said ∙ is)),
     λ is. answered.said
@@ -192,22 +178,28 @@ module _ {A : Type 0} (tag : ℕ) (here : InFlight) (old : SlotState) (what : Ev
       one_code Failed Failed is = refl
 
 -- where the window may be served, the guest is told
-pub answers : {A : Type 0} (old : SlotState) (tag : ℕ) (here : InFlight) (queue : Queue) (what : EventKind A)
-    (verdict : Verdict) (before after : Health) (outcome : Outcome A)
-    → get_or (tags_in old.host) tag None ≡ Some here → Inside old.memory here.flight.status 1
-    → queue_at 0 old.block ≡ Some queue → told_in what ≡ Some (Complete tag verdict)
-    → MayGive old what before after outcome
-    → IsAnswered tag here old what (code_of (status_by verdict)) outcome.state
-answers old tag here queue what verdict before after outcome there place ready is h =
-    let completes = completes_by old tag here what before after outcome verdict there is h in
-    let lands = completes.lands.lands in
+pub answers : {A : Type 0} (disk : SlotDisk) (old : SlotState) (unit : DiskUnit) (tag : ℕ) (here : InFlight)
+    (queue : Queue) (what : EventKind A) (verdict : Verdict) (before after : Health) (outcome : Outcome A)
+    → unit_at disk old ≡ Some unit → get_or (in_flight_of disk old) tag None ≡ Some here
+    → Inside old.memory here.flight.status 1 → queue_at 0 unit.window ≡ Some queue
+    → said_of disk what ≡ Some (Complete tag verdict) → MayGive old what before after outcome
+    → IsAnswered disk tag here old what (code_of (status_by verdict)) outcome.state
+answers disk old unit tag here queue what verdict before after outcome found taken place ready is h =
+    let completes = completes_by disk old unit tag here what before after outcome verdict found taken is h in
+    let began = unit_queue old.memory completes.before in
+    let landed = completes.does.queue.landed in
+    let lands = completes.does.queue.lands in
+    let this : unit ≡ completes.before = same_Some unit completes.before (sym found ∙ completes.there) in
+    let there : get_or began.tags tag None ≡ Some here =
+    ap (λ (l : List (Option InFlight)). get_or l tag None) (unit_tags disk old completes.before completes.there)
+    ∙ taken in
     let same : lands.here ≡ here = same_Some lands.here here (sym lands.there ∙ there) in
-    let given = given_back (queue_at 0 old.block) queue tag here verdict (hosted_queue old)
-    (hosted_queue completes.landed) ready
-    (subst (λ (f : InFlight). LandsBy (queue_at 0 old.block) tag f verdict (hosted_queue old)
-    (hosted_queue completes.landed)) same lands.lands) in
+    let open_at : queue_at 0 began.window ≡ Some queue =
+    ap (λ (u : DiskUnit). queue_at 0 u.window) (sym this) ∙ ready in
+    let given = given_back (queue_at 0 began.window) queue tag here verdict began landed open_at
+    (subst (λ (f : InFlight). LandsBy (queue_at 0 began.window) tag f verdict began landed) same lands.lands) in
     record {
-      there = there;
+      there = taken;
       place = place;
       verdict = verdict;
       said = is;
@@ -264,35 +256,35 @@ word_behind : (xs ys : List Completion) (old new : Medium) → KeepsWordIn old (
 word_behind [] ys old new word = (old, word)
 word_behind (x ∷ xs) ys old new (mid, kept, rest) = word_behind xs ys mid new rest
 
-word_along : {A : Type 0} (old : Standing) (first later : List (Passage A)) (before after : Medium)
-    → KeepsWordIn before (completions old (first ++ later)) after
-    → (mid : Medium) × KeepsWordIn mid (completions (behind_all old first) later) after
-word_along old [] later before after word = (before, word)
-word_along old (passage ∷ first) later before after word =
-    let rest = word_behind (said_by (told_in passage.what) old) (completions (behind old passage) (first ++ later))
-    before after word in
-    word_along (behind old passage) first later rest.0 after rest.1
+word_along : {A : Type 0} (disk : SlotDisk) (old : Standing) (first later : List (Passage A)) (before after : Medium)
+    → KeepsWordIn before (completions disk old (first ++ later)) after
+    → (mid : Medium) × KeepsWordIn mid (completions disk (behind_all disk old first) later) after
+word_along disk old [] later before after word = (before, word)
+word_along disk old (passage ∷ first) later before after word =
+    let rest = word_behind (said_by (said_of disk passage.what) disk old)
+    (completions disk (behind disk old passage) (first ++ later)) before after word in
+    word_along disk (behind disk old passage) first later rest.0 after rest.1
 
-one_said : (found : Option HostEvent) (now : Standing) (tag : ℕ) (here : InFlight) (verdict : Verdict)
-    → found ≡ Some (Complete tag verdict) → get_or (tags_in now.state.host) tag None ≡ Some here
-    → said_by found now ≡ completed here verdict (now.beside tag) ∷ []
-one_said found now tag here verdict is there =
-    ap (λ (said : Option HostEvent). said_by said now) is
+one_said : (found : Option HostEvent) (disk : SlotDisk) (now : Standing) (tag : ℕ) (here : InFlight) (verdict : Verdict)
+    → found ≡ Some (Complete tag verdict) → get_or (in_flight_of disk now.state) tag None ≡ Some here
+    → said_by found disk now ≡ completed here verdict (now.beside tag) ∷ []
+one_said found disk now tag here verdict is there =
+    ap (λ (said : Option HostEvent). said_by said disk now) is
     ∙ ap (λ (f : Option InFlight). completed_in f verdict (now.beside tag)) there
 
-pub lasts : {A : Type 0} (old : Standing) (first later : List (Passage A)) (done : Passage A) (tag place : ℕ)
-    (here : InFlight) (before after : Medium)
-    → IsAnswered tag here (behind_all old first).state done.what (code_of Success) done.after
-    → covers here ((behind_all old first).beside tag) place ≡ true
-    → KeepsWordIn before (completions old (first ++ done ∷ later)) after
-    → IsUnwritten place (completions (behind (behind_all old first) done) later)
+pub lasts : {A : Type 0} (disk : SlotDisk) (old : Standing) (first later : List (Passage A)) (done : Passage A)
+    (tag place : ℕ) (here : InFlight) (before after : Medium)
+    → IsAnswered disk tag here (behind_all disk old first).state done.what (code_of Success) done.after
+    → covers here ((behind_all disk old first).beside tag) place ≡ true
+    → KeepsWordIn before (completions disk old (first ++ done ∷ later)) after
+    → IsUnwritten place (completions disk (behind disk (behind_all disk old first) done) later)
     → slice_get after.left place ≡ slice_get after.held place
-lasts old first later done tag place here before after answered covered word unwritten =
-    let now = behind_all old first in
-    let rest = word_along old first (done ∷ later) before after word in
-    let is = (told_by tag here now.state done.what 0 done.after answered Done).1 refl in
-    let said = one_said (told_in done.what) now tag here Done is answered.there in
-    word_lasts (completed here Done (now.beside tag)) (completions (behind now done) later) rest.0 after place
-    (subst (λ (l : List Completion). KeepsWordIn rest.0 (l ++ completions (behind now done) later) after) said
-    rest.1)
+lasts disk old first later done tag place here before after answered covered word unwritten =
+    let now = behind_all disk old first in
+    let rest = word_along disk old first (done ∷ later) before after word in
+    let is = (told_by disk tag here now.state done.what 0 done.after answered Done).1 refl in
+    let said = one_said (said_of disk done.what) disk now tag here Done is answered.there in
+    word_lasts (completed here Done (now.beside tag)) (completions disk (behind disk now done) later) rest.0 after place
+    (subst (λ (l : List Completion).
+    KeepsWordIn rest.0 (l ++ completions disk (behind disk now done) later) after) said rest.1)
     covered unwritten

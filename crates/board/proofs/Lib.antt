@@ -38,10 +38,13 @@ pub mod Beside
 pub mod Hosts
 pub mod OneHosted
 pub mod Ways
+pub mod HostedDisks
+pub mod DiskSteps
 pub mod OnHost
 pub mod Waiting
 pub mod HostedWindows
 pub mod Holding
+pub mod Releasing
 pub mod Honest
 pub mod Lasting
 pub mod Reading

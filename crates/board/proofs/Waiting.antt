@@ -1,22 +1,25 @@
 -- What waits for what is in flight, and what doesn't end it.
-use Rattle.std.proofs.Common.{◌≡◌, ◌≢◌, ℕ, Bool, true, false, Option, Some, None, get_or, sym, ◌∙◌, ap, refl}
+use Rattle.std.proofs.Common.{◌≡◌, ◌≢◌, ℕ, Bool, true, false, Option, Some, None, get_or, sym, ◌∙◌, ap, refl, subst}
 use Rattle.std.specs.Prelude.{◌||◌}
 use Rattle.std.specs.Option.{option_and_then}
-use Rattle.block_device.specs.Flights.{InFlight, is_any}
+use Rattle.block_device.specs.declared.device.BlockDevice.{BlockDevice}
+use Rattle.block_device.specs.declared.operation.HostEvent.{HostEvent}
+use Rattle.block_device.specs.Flights.{HostedQueue, InFlight, is_any}
+use Rattle.hosted_disk.specs.Told.{QueueTold}
 use Rattle.board.specs.declared.event.EventKind.{EventKind}
 use Rattle.board.specs.declared.event.EventKind.TheVariants.{Restore, Device}
-use Rattle.block_device.specs.declared.operation.HostEvent.TheVariants.{Complete}
+use Rattle.block_device.specs.declared.operation.HostEvent.TheVariants.{Complete, Drop, Hold, Release}
 use Rattle.block_device.specs.declared.operation.Verdict.{Verdict}
 use Rattle.board.specs.declared.reply.Reply.TheVariants.{Busy, Idle}
 use Rattle.board.specs.Backing.{HostDisk, tags_in}
-use Rattle.board.specs.Hosting.{LeavesTag, hosted_device, hosted_queue, must_wait, released, tag_in, tag_of, told_in, waits_now}
+use Rattle.board.specs.HostedDisks.{LeavesTagOf, SlotDisk, in_flight_of, on_hold_of, said_of}
+use Rattle.board.specs.Hosting.{must_wait, tag_of, waits_now}
 use Rattle.board.specs.Image.{Health}
-use Rattle.board.specs.Machine.{readied}
 use Rattle.board.specs.Outcome.{Outcome, replies}
 use Rattle.board.specs.Slot.{SlotState}
 use Rattle.board.specs.World.{MayGive, MayGiveBy, MayGiveOverImage}
-use Rattle.board.proofs.Identities.{given_fixed, readied_fixed}
-use Rattle.hosted_disk.proofs.Looking.{KeepsTag, keeps_tag, landing_keeps, unless_left}
+use Rattle.board.proofs.DiskSteps.{Comes, IsLooked, IsTold, Retakes, Stays, StepsTo, steps}
+use Rattle.hosted_disk.proofs.Looking.{KeepsTag, keeps_tag, landing_keeps, look_left, unless_left}
 use Rattle.board.specs.Waiting.{may_wait, waits_beside}
 use Rattle.board.proofs.FurtherDevices.{device_may_wait}
 use Rattle.board.proofs.Replies.{busy_over_image, idle_over_image}
@@ -24,51 +27,45 @@ use Rattle.board.proofs.Ways.{Drops, Holds, Lands, Looks, Passes, Releases, Rest
 
 -- ---- what doesn't end it
 
--- the same disk keeps it
-tag_stays : (tag : ℕ) (here : InFlight) (host host' : Option HostDisk) → host' ≡ host
-    → get_or (tags_in host) tag None ≡ Some here → get_or (tags_in host') tag None ≡ Some here
-tag_stays tag here host host' same taken = ap (λ (h : Option HostDisk). get_or (tags_in h) tag None) same ∙ taken
-
 -- the completion is of another tag
-other_tag : {A : Type 0} (what : EventKind A) (its : ℕ) (verdict : Verdict) (tag : ℕ)
-    → told_in what ≡ Some (Complete its verdict) → tag_in what ≢ Some tag → tag ≢ its
-other_tag what its verdict tag is other = λ same. other (ap (option_and_then tag_of) is ∙ ap Some (sym same))
+other_tag : (found : Option HostEvent) (its : ℕ) (verdict : Verdict) (tag : ℕ)
+    → found ≡ Some (Complete its verdict) → option_and_then tag_of found ≢ Some tag → tag ≢ its
+other_tag found its verdict tag is other = λ same. other (ap (option_and_then tag_of) is ∙ ap Some (sym same))
 
-outlasts_by : {A : Type 0} (old : SlotState) (tag : ℕ) (here : InFlight) (what : EventKind A) (before : Health)
-    (outcome : Outcome A) → get_or (tags_in old.host) tag None ≡ Some here → LeavesTag tag what
-    → Way (λ (o : Outcome A). MayGiveOverImage old what before before o) old what outcome
-    → get_or (tags_in outcome.state.host) tag None ≡ Some here
-outlasts_by {A} old tag here what before outcome taken other (Waits waits h) =
-    tag_stays tag here old.host outcome.state.host (ap (λ (o : Outcome A). o.state.host) h) taken
-outlasts_by old tag here what before outcome taken other (Passes own free quiet h) =
-    tag_stays tag here old.host outcome.state.host (given_fixed old what before before outcome h).host taken
-outlasts_by old tag here what before outcome taken other (Looks rings looks h) =
-    let ready = readied what old in
-    unless_left (KeepsTag tag) (keeps_tag tag) ready.on_hold (hosted_device ready) (hosted_queue ready)
-    (hosted_queue outcome.state) looks.looks here (tag_stays tag here old.host ready.host (readied_fixed what old).host taken)
-outlasts_by {A} old tag here what before outcome taken other (Rests said is h) =
-    tag_stays tag here old.host outcome.state.host (ap (λ (o : Outcome A). o.state.host) h) taken
-outlasts_by old tag here what before outcome taken other (Lands its verdict is completes h) =
-    let landed = completes.landed in
-    unless_left (KeepsTag tag) (keeps_tag tag) landed.on_hold (hosted_device landed) (hosted_queue landed)
-    (hosted_queue outcome.state) completes.looks.looks here
-    (landing_keeps tag its verdict (hosted_queue old) (hosted_queue landed)
-    (other_tag what its verdict tag is other.other) completes.lands.lands here taken)
-outlasts_by old tag here what before outcome taken other (Drops is h) = absurd (other.no_drop is)
-outlasts_by {A} old tag here what before outcome taken other (Holds is h) =
-    tag_stays tag here old.host outcome.state.host (ap (λ (o : Outcome A). o.state.host) h) taken
-outlasts_by old tag here what before outcome taken other (Releases is looks h) =
-    unless_left (KeepsTag tag) (keeps_tag tag) false (hosted_device (released old)) (hosted_queue (released old))
-    (hosted_queue outcome.state) looks.looks here taken
+-- what the host says leaves each other operation
+word_keeps : (found : Option HostEvent) (said : HostEvent) (tag : ℕ) (device : BlockDevice) (on_hold : Bool)
+    (q q' : HostedQueue) → found ≡ Some said → option_and_then tag_of found ≢ Some tag → found ≢ Some Drop
+    → QueueTold said device on_hold q q' → KeepsTag tag q q'
+word_keeps found (Complete its verdict) tag device on_hold q q' is other no_drop told = λ here taken.
+    unless_left (KeepsTag tag) (keeps_tag tag) on_hold device told.landed q' told.looks here
+    (landing_keeps tag its verdict q told.landed (other_tag found its verdict tag is other) told.lands here taken)
+word_keeps found Drop tag device on_hold q q' is other no_drop told = absurd (no_drop is)
+word_keeps found Hold tag device on_hold q q' is other no_drop told =
+    subst (KeepsTag tag q) (sym told) (λ here taken. taken)
+word_keeps found Release tag device on_hold q q' is other no_drop told =
+    look_left (KeepsTag tag) (keeps_tag tag) device q q' told
 
-pub outlasts : {A : Type 0} (old : SlotState) (tag : ℕ) (here : InFlight) (what : EventKind A)
-    (before after : Health) (outcome : Outcome A) → get_or (tags_in old.host) tag None ≡ Some here
-    → LeavesTag tag what → MayGive old what before after outcome
-    → get_or (tags_in outcome.state.host) tag None ≡ Some here
-outlasts old tag here what before after outcome taken other h =
-    by_disk old.host old what before after outcome
-    (λ given. tag_stays tag here old.host outcome.state.host (given_fixed old what before after outcome given).host taken)
-    (λ image ways. outlasts_by old tag here what before outcome taken other ways) h
+module _ {A : Type 0} (disk : SlotDisk) (old : SlotState) (tag : ℕ) (here : InFlight) (what : EventKind A) where
+  outlasts_by : (new : SlotState) → get_or (in_flight_of disk old) tag None ≡ Some here → LeavesTagOf disk tag what
+      → StepsTo disk what old new → get_or (in_flight_of disk new) tag None ≡ Some here
+  outlasts_by new taken other (Stays tags on_hold) = ap (λ l. get_or l tag None) tags ∙ taken
+  outlasts_by new taken other (Retakes restores tags) = ap (λ l. get_or l tag None) tags ∙ taken
+  outlasts_by new taken other (Comes none free) =
+      let clash : None ≡ Some here = ap (λ l. get_or l tag None) (sym none) ∙ taken in absurd (cc clash)
+  outlasts_by new taken other (IsLooked device q q' looks from to on_hold) =
+      ap (λ l. get_or l tag None) to
+      ∙ unless_left (KeepsTag tag) (keeps_tag tag) (on_hold_of disk old) device q q' looks here
+      (ap (λ l. get_or l tag None) from ∙ taken)
+  outlasts_by new taken other (IsTold said is device q q' told from to on_hold) =
+      ap (λ l. get_or l tag None) to
+      ∙ word_keeps (said_of disk what) said tag device (on_hold_of disk old) q q' is other.other other.no_drop told here
+      (ap (λ l. get_or l tag None) from ∙ taken)
+
+  pub outlasts : (before after : Health) (outcome : Outcome A) → get_or (in_flight_of disk old) tag None ≡ Some here
+      → LeavesTagOf disk tag what → MayGive old what before after outcome
+      → get_or (in_flight_of disk outcome.state) tag None ≡ Some here
+  outlasts before after outcome taken other h =
+      outlasts_by outcome.state taken other (steps disk what old before after outcome h)
 
 -- ---- what a busy answer says, and an idle one
 

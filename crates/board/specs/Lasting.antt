@@ -1,4 +1,4 @@
--- What the host of a disk says of its medium in the course of a slot, and what the slot's guest is told by it.
+-- What the host of one of a slot's disks says of its medium in the course of the slot, and what the slot's guest is told by it.
 use Rattle.std.specs.Prelude.{◌≡◌, ℕ, suc, ◌==◌, ◌&&◌, Bool, true, false, not, if◌then◌else◌, Option, Some, None, is_some, List, [], ◌∷◌, ◌++◌, map, flat_map, get_or, set}
 use Rattle.std.specs.List.{slice_get}
 use Rattle.guest_memory.specs.Memory.{Inside, part_of}
@@ -10,8 +10,7 @@ use Rattle.board.specs.declared.event.EventKind.{EventKind}
 use Rattle.block_device.specs.declared.operation.HostEvent.{HostEvent}
 use Rattle.block_device.specs.declared.operation.HostEvent.TheVariants.{Complete, Drop}
 use Rattle.board.specs.declared.reply.Record.{Record}
-use Rattle.board.specs.Backing.{tags_in}
-use Rattle.board.specs.Hosting.{CompletesTag, dropped, hosted_queue, told_in}
+use Rattle.board.specs.HostedDisks.{DoesAsSaid, SlotDisk, in_flight_of, said_of, unit_queue}
 use Rattle.board.specs.Line.{MayBeTold, Move, events_of, own_events, own_records, records_of}
 use Rattle.board.specs.Slot.{SlotState}
 use Rattle.board.specs.Steps.{LeadTo}
@@ -62,23 +61,24 @@ ends_tag tag (Some (Complete its verdict)) = its == tag
 ends_tag tag (Some Drop) = true
 ends_tag tag said = false
 
--- whether an event leaves an operation with this tag in flight
-abbrev pub stays_in : {A : Type 0} → ℕ → SlotState → EventKind A → Bool
-stays_in tag state what = is_some (get_or (tags_in state.host) tag None) && not (ends_tag tag (told_in what))
+-- whether an event leaves an operation of the disk with this tag in flight
+abbrev pub stays_in : {A : Type 0} → SlotDisk → ℕ → SlotState → EventKind A → Bool
+stays_in disk tag state what =
+    is_some (get_or (in_flight_of disk state) tag None) && not (ends_tag tag (said_of disk what))
 
 -- Behind an event, all that is in flight then is beside each other operation. One that stays in flight goes on
 -- having beside it what it had.
-abbrev pub behind : {A : Type 0} → Standing → Passage A → Standing
-behind old passage = record {
+abbrev pub behind : {A : Type 0} → SlotDisk → Standing → Passage A → Standing
+behind disk old passage = record {
   state = passage.after;
   beside = λ tag.
-      (if stays_in tag old.state passage.what then old.beside tag else [])
-      ++ asked_beside tag (tags_in passage.after.host);
+      (if stays_in disk tag old.state passage.what then old.beside tag else [])
+      ++ asked_beside tag (in_flight_of disk passage.after);
 }
 
-abbrev pub behind_all : {A : Type 0} → Standing → List (Passage A) → Standing
-behind_all old [] = old
-behind_all old (passage ∷ passages) = behind_all (behind old passage) passages
+abbrev pub behind_all : {A : Type 0} → SlotDisk → Standing → List (Passage A) → Standing
+behind_all disk old [] = old
+behind_all disk old (passage ∷ passages) = behind_all disk (behind disk old passage) passages
 
 -- ---- what the host says of its medium
 
@@ -99,16 +99,17 @@ cut_short (found ∷ tags) beside =
     completed_in found Failed (beside 0) ++ cut_short tags (λ tag. beside (suc tag))
 
 -- what it says by an event: a completion is of the operation in its tag, and a drop cuts all short
-abbrev pub said_by : Option HostEvent → Standing → List Completion
-said_by (Some (Complete tag verdict)) old =
-    completed_in (get_or (tags_in old.state.host) tag None) verdict (old.beside tag)
-said_by (Some Drop) old = cut_short (tags_in old.state.host) old.beside
-said_by said old = []
+abbrev pub said_by : Option HostEvent → SlotDisk → Standing → List Completion
+said_by (Some (Complete tag verdict)) disk old =
+    completed_in (get_or (in_flight_of disk old.state) tag None) verdict (old.beside tag)
+said_by (Some Drop) disk old = cut_short (in_flight_of disk old.state) old.beside
+said_by said disk old = []
 
--- The host's completions along a course, in order. What is in flight at its end is cut short.
-abbrev pub completions : {A : Type 0} → Standing → List (Passage A) → List Completion
-completions old [] = cut_short (tags_in old.state.host) old.beside
-completions old (passage ∷ later) = said_by (told_in passage.what) old ++ completions (behind old passage) later
+-- The completions of the disk along a course, in order. What is in flight at its end is cut short.
+abbrev pub completions : {A : Type 0} → SlotDisk → Standing → List (Passage A) → List Completion
+completions disk old [] = cut_short (in_flight_of disk old.state) old.beside
+completions disk old (passage ∷ later) =
+    said_by (said_of disk passage.what) disk old ++ completions disk (behind disk old passage) later
 
 -- Whether the operation, once it is done, has the byte on the medium: a FLUSH has each byte there, a stable write
 -- each that it writes, but none that something in flight beside it writes.
@@ -119,22 +120,23 @@ covers here beside place = must_last (completed here Done beside) place
 
 -- What an event makes of the chain in flight with this tag: it stays in flight; it is given up, and nothing is
 -- written; or the host completed its operation.
-pub data Becomes {A : Type 0} (tag : ℕ) (here : InFlight) (old : SlotState) (what : EventKind A)
+pub data Becomes {A : Type 0} (disk : SlotDisk) (tag : ℕ) (here : InFlight) (old : SlotState) (what : EventKind A)
     (new : SlotState) : Type 0 where
-  Stays : get_or (tags_in new.host) tag None ≡ Some here → Becomes tag here old what new
-  GivenUp : told_in what ≡ Some Drop → new ≡ dropped old → Becomes tag here old what new
+  Stays : get_or (in_flight_of disk new) tag None ≡ Some here → Becomes disk tag here old what new
+  GivenUp : said_of disk what ≡ Some Drop → DoesAsSaid disk Drop old new → Becomes disk tag here old what new
   Completed :
-      (verdict : Verdict) → told_in what ≡ Some (Complete tag verdict) → CompletesTag tag verdict old new
-      → Becomes tag here old what new
+      (verdict : Verdict) → said_of disk what ≡ Some (Complete tag verdict)
+      → DoesAsSaid disk (Complete tag verdict) old new → Becomes disk tag here old what new
 
 -- By this event the chain in flight with this tag is given back, and its guest reads this status: the status has
 -- a place in memory, where this stands as the used entry is put.
-pub record IsAnswered {A : Type 0} (tag : ℕ) (here : InFlight) (old : SlotState) (what : EventKind A)
+pub record IsAnswered {A : Type 0} (disk : SlotDisk) (tag : ℕ) (here : InFlight) (old : SlotState) (what : EventKind A)
     (status : ℕ) (new : SlotState) : Type 0 where
-  pub there : get_or (tags_in old.host) tag None ≡ Some here
+  pub there : get_or (in_flight_of disk old) tag None ≡ Some here
   pub place : Inside old.memory here.flight.status 1
   pub verdict : Verdict
-  pub said : told_in what ≡ Some (Complete tag verdict)
-  pub completes : CompletesTag tag verdict old new
-  pub given : IsGivenIn tag here verdict (hosted_queue old) (hosted_queue completes.landed)
+  pub said : said_of disk what ≡ Some (Complete tag verdict)
+  pub completes : DoesAsSaid disk (Complete tag verdict) old new
+  pub given :
+      IsGivenIn tag here verdict (unit_queue old.memory completes.before) completes.does.queue.landed
   pub reads : part_of given.completes.gives.done here.flight.status 1 ≡ status ∷ []

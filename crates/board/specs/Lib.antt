@@ -3,6 +3,7 @@ pub use Rattle.mmio_window.specs.Window
 pub use Rattle.sector_cache.specs.Disk
 pub mod Backing
 pub mod Hosting
+pub mod HostedDisks
 pub mod Flights
 pub mod Honest
 pub mod Durable

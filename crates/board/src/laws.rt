@@ -33,9 +33,11 @@ ghost use Rattle.board.specs.Durable.{IsLeftAsSeen, TouchesSlot};
 ghost use Rattle.board.specs.Extent.{IsApart};
 ghost use Rattle.board.specs.Backing.{tags_in};
 ghost use Rattle.board.specs.Honest.{IsFlown, IsHonestlyServed};
-ghost use Rattle.board.specs.Hosting.{IsNoRestore, LeavesTag, dropped, held, notifies_block, released, told_in, waits_now};
+ghost use Rattle.board.specs.HostedDisks.{DiskUnit, DoesAsSaid, LeavesTagOf, SlotDisk, held_so, in_flight_of, notifies_disk, on_hold_of, said_of, saying, unit_at, waits_for};
+ghost use Rattle.board.specs.Hosting.{IsNoRestore, dropped};
 ghost use Rattle.board.specs.Waiting.{may_wait, waits_beside};
 ghost use Rattle.device_list.specs.List.{disk_at};
+ghost use Rattle.hosted_disk.specs.Told.{has_effect};
 ghost use Rattle.board.specs.Image.{Health, Tells, bytes_of};
 ghost use Rattle.board.specs.Lasting.{Becomes, HasCourse, IsAnswered, IsCourse, Passage, Standing, behind, behind_all, completions, covers};
 ghost use Rattle.board.specs.Line.{Move, IsLine, IsNoted, IsQuiet, IsAlone, IsRun, RunsAsItMay, SeesTheSame, events_of, own_events};
@@ -209,12 +211,20 @@ pub fn each_guest_is_alone_whatever_it_meets<A: Allocator>()
         IsLine old moves new → slice_get old.slots g ≡ Some state → RunsAsItMay g state moves new }
 {}
 
-/// What is in flight stays in flight with its tag, whatever its guest does, and whatever else is completed: only its own
-/// completion ends it, and a drop.
+/// What the host says of a disk that it serves comes to the same whether that is the slot's own or a further one: where there
+/// is something to do, the disk does as it is told, and all else of the slot stays.
+pub fn a_disk_does_as_its_host_says<A: Allocator>()
+    ensures { (disk : SlotDisk) (old : SlotState) (unit : DiskUnit) (said : HostEvent) (what : EventKind A)
+        (before after : Health) (outcome : Outcome A) → unit_at disk old ≡ Some unit → has_effect said unit.disk ≡ true →
+        said_of disk what ≡ Some said → MayGive old what before after outcome → DoesAsSaid disk said old outcome.state }
+{}
+
+/// What is in flight of a disk stays in flight with its tag, whatever its guest does, and whatever else is completed: only its
+/// own completion ends it, and a drop.
 pub fn a_flight_outlasts_own_events<A: Allocator>()
-    ensures { (old : SlotState) (tag : ℕ) (here : InFlight) (what : EventKind A) (before after : Health)
-        (outcome : Outcome A) → get_or (tags_in old.host) tag None ≡ Some here → LeavesTag tag what →
-        MayGive old what before after outcome → get_or (tags_in outcome.state.host) tag None ≡ Some here }
+    ensures { (disk : SlotDisk) (old : SlotState) (tag : ℕ) (here : InFlight) (what : EventKind A) (before after : Health)
+        (outcome : Outcome A) → get_or (in_flight_of disk old) tag None ≡ Some here → LeavesTagOf disk tag what →
+        MayGive old what before after outcome → get_or (in_flight_of disk outcome.state) tag None ≡ Some here }
 {}
 
 /// An event that waits changes nothing, and only a write of Status or QueueReady of a disk's window and a restore may wait; nor
@@ -245,24 +255,25 @@ pub fn a_dropped_slot_never_waits<A: Allocator>()
         outcome.state ≡ dropped old }
 {}
 
-/// Of a slot on hold no further chain is taken: a free tag stays free, whatever its guest does and the host completes, until
+/// Of a disk on hold no further chain is taken: a free tag stays free, whatever its guest does and the host completes, until
 /// it is released (`free`). It stays on hold until then, or until it takes up a snapshot (`stays`).
 pub fn no_chain_is_taken_on_hold<A: Allocator>()
-    ensures free { (old : SlotState) (tag : ℕ) (what : EventKind A) (before after : Health) (outcome : Outcome A) →
-        old.on_hold ≡ true → told_in what ≢ Some HostEvent.Release → get_or (tags_in old.host) tag None ≡ None →
-        MayGive old what before after outcome → get_or (tags_in outcome.state.host) tag None ≡ None }
-    ensures stays { (old : SlotState) (what : EventKind A) (before after : Health) (outcome : Outcome A) →
-        old.on_hold ≡ true → told_in what ≢ Some HostEvent.Release → IsNoRestore what →
-        MayGive old what before after outcome → outcome.state.on_hold ≡ true }
+    ensures free { (disk : SlotDisk) (old : SlotState) (tag : ℕ) (what : EventKind A) (before after : Health)
+        (outcome : Outcome A) → on_hold_of disk old ≡ true → said_of disk what ≢ Some HostEvent.Release →
+        get_or (in_flight_of disk old) tag None ≡ None → MayGive old what before after outcome →
+        get_or (in_flight_of disk outcome.state) tag None ≡ None }
+    ensures stays { (disk : SlotDisk) (old : SlotState) (what : EventKind A) (before after : Health) (outcome : Outcome A) →
+        on_hold_of disk old ≡ true → said_of disk what ≢ Some HostEvent.Release → IsNoRestore what →
+        MayGive old what before after outcome → on_hold_of disk outcome.state ≡ true }
 {}
 
-/// A guest that is held and released gets what it gets without, but for the moment: where it notified its block device on
+/// A guest of which a disk is held and released gets what it gets without, but for the moment: where it notified the disk on
 /// hold, the release comes to what the notification would have come to.
 pub fn a_release_makes_up_for_a_notification<A: Allocator>()
-    ensures { (old : SlotState) (what : EventKind A) (waited late prompt : Outcome A) → IsSome old.host →
-        notifies_block what old ≡ true → waits_now what old.host ≡ false →
-        IsNext (held old) what waited → IsNext waited.state (EventKind.Host HostEvent.Release) late →
-        IsNext (released old) what prompt → late.state ≡ prompt.state }
+    ensures { (disk : SlotDisk) (old : SlotState) (what : EventKind A) (waited late prompt : Outcome A) →
+        IsSome (unit_at disk old) → notifies_disk disk what old ≡ true → waits_for disk what old ≡ false →
+        IsNext (held_so true disk old) what waited → IsNext waited.state (saying disk HostEvent.Release) late →
+        IsNext (held_so false disk old) what prompt → late.state ≡ prompt.state }
 {}
 
 /// Where a host did with a guest's disk what may become of the request that was asked for, and says so, the slot's block
@@ -270,9 +281,9 @@ pub fn a_release_makes_up_for_a_notification<A: Allocator>()
 /// as it stood at the completion, where the data that was read must stand. What the guest and the completions of other
 /// operations did in between has no part in it.
 pub fn an_honest_host_serves<A: Allocator>()
-    ensures { (device : BlockDevice) (began : HostedQueue) (tag : ℕ) (here : InFlight) (now : SlotState) (verdict : Verdict)
-        (new : HostedQueue) (flown : IsFlown A device began tag here now verdict new) →
-        IsHonestlyServed device began tag here now verdict new flown }
+    ensures { (disk : SlotDisk) (device : BlockDevice) (began : HostedQueue) (tag : ℕ) (here : InFlight) (now : SlotState)
+        (verdict : Verdict) (new : HostedQueue) (flown : IsFlown A disk device began tag here now verdict new) →
+        IsHonestlyServed disk device began tag here now verdict new flown }
 {}
 
 /// The guest of a disk that the host serves is told what its host says, and no sooner. Nothing that a look serves at once is an
@@ -282,17 +293,18 @@ pub fn an_honest_host_serves<A: Allocator>()
 pub fn a_guest_is_told_what_its_host_says<A: Allocator>()
     ensures at_once { (device : BlockDevice) (site : Site Queue Disk) (served : Served Disk) →
         ServesChain queue_kind (unasked_device device) site served → ¬ IsCommitted device site.memory served }
-    ensures becomes { (old : SlotState) (tag : ℕ) (here : InFlight) (what : EventKind A) (before after : Health)
-        (outcome : Outcome A) → get_or (tags_in old.host) tag None ≡ Some here → MayGive old what before after outcome →
-        Becomes tag here old what outcome.state }
-    ensures answered { (old : SlotState) (tag : ℕ) (here : InFlight) (queue : Queue) (what : EventKind A) (verdict : Verdict)
-        (before after : Health) (outcome : Outcome A) → get_or (tags_in old.host) tag None ≡ Some here →
-        Inside old.memory here.flight.status 1 → queue_at 0 old.block ≡ Some queue →
-        told_in what ≡ Some (HostEvent.Complete tag verdict) → MayGive old what before after outcome →
-        IsAnswered tag here old what (code_of (status_by verdict)) outcome.state }
-    ensures told { (tag : ℕ) (here : InFlight) (old : SlotState) (what : EventKind A) (status : ℕ) (new : SlotState) →
-        IsAnswered tag here old what status new → (verdict : Verdict) →
-        (told_in what ≡ Some (HostEvent.Complete tag verdict)) ↔ (status ≡ code_of (status_by verdict)) }
+    ensures becomes { (disk : SlotDisk) (old : SlotState) (tag : ℕ) (here : InFlight) (what : EventKind A)
+        (before after : Health) (outcome : Outcome A) → get_or (in_flight_of disk old) tag None ≡ Some here →
+        MayGive old what before after outcome → Becomes disk tag here old what outcome.state }
+    ensures answered { (disk : SlotDisk) (old : SlotState) (unit : DiskUnit) (tag : ℕ) (here : InFlight) (queue : Queue)
+        (what : EventKind A) (verdict : Verdict) (before after : Health) (outcome : Outcome A) →
+        unit_at disk old ≡ Some unit → get_or (in_flight_of disk old) tag None ≡ Some here →
+        Inside old.memory here.flight.status 1 → queue_at 0 unit.window ≡ Some queue →
+        said_of disk what ≡ Some (HostEvent.Complete tag verdict) → MayGive old what before after outcome →
+        IsAnswered disk tag here old what (code_of (status_by verdict)) outcome.state }
+    ensures told { (disk : SlotDisk) (tag : ℕ) (here : InFlight) (old : SlotState) (what : EventKind A) (status : ℕ)
+        (new : SlotState) → IsAnswered disk tag here old what status new → (verdict : Verdict) →
+        (said_of disk what ≡ Some (HostEvent.Complete tag verdict)) ↔ (status ≡ code_of (status_by verdict)) }
 {}
 
 /// A FLUSH that was answered OK lasts, and so does a stable write: each byte that it covers is on the medium after a stop as the
@@ -303,13 +315,13 @@ pub fn a_guest_is_told_what_its_host_says<A: Allocator>()
 pub fn a_flush_that_was_answered_lasts<A: Allocator>()
     ensures course { (g : ℕ) (old new : World) (moves : List (Move A)) (state : SlotState) →
         IsLine old moves new → slice_get old.slots g ≡ Some state → HasCourse g state moves new }
-    ensures lasts { (g : ℕ) (old : Standing) (first later : List (Passage A)) (passage : Passage A) (new : SlotState)
-        (tag place : ℕ) (here : InFlight) (before after : Medium) →
+    ensures lasts { (g : ℕ) (disk : SlotDisk) (old : Standing) (first later : List (Passage A)) (passage : Passage A)
+        (new : SlotState) (tag place : ℕ) (here : InFlight) (before after : Medium) →
         IsCourse g old.state (first ++ passage ∷ later) new →
-        IsAnswered tag here (behind_all old first).state passage.what (code_of RequestStatus.Success) passage.after →
-        covers here ((behind_all old first).beside tag) place ≡ true →
-        KeepsWordIn before (completions old (first ++ passage ∷ later)) after →
-        IsUnwritten place (completions (behind (behind_all old first) passage) later) →
+        IsAnswered disk tag here (behind_all disk old first).state passage.what (code_of RequestStatus.Success)
+        passage.after → covers here ((behind_all disk old first).beside tag) place ≡ true →
+        KeepsWordIn before (completions disk old (first ++ passage ∷ later)) after →
+        IsUnwritten place (completions disk (behind disk (behind_all disk old first) passage) later) →
         slice_get after.left place ≡ slice_get after.held place }
 {}
 

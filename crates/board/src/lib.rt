@@ -44,14 +44,15 @@ pub use event::{DeviceEvent, Event, EventKind, SlotWindow};
 pub use fault::{BoardFault, SlotFault};
 pub use guest_memory::{GuestMemory, MemoryFault, RegionSpec, Regions};
 pub use laws::{
-    a_cut_event_touches_no_other_disk, a_dropped_slot_never_waits, a_failed_event_keeps_the_rest,
-    a_flight_outlasts_own_events, a_guest_alone_has_one_run, a_release_makes_up_for_a_notification,
-    a_restore_is_refused_for_one_cause, a_restored_guest_goes_on, a_step_is_a_run,
-    a_stop_between_events_loses_nothing, an_event_marks_its_pages, an_honest_host_serves,
-    each_guest_is_alone, each_guest_is_alone_whatever_it_meets, identities_stay,
-    no_chain_is_taken_on_hold, nothing_else_is_seen, one_outcome, one_outcome_within,
-    refusals_are_noted, two_runs_are_one, want_of_memory_changes_nothing,
-    want_of_memory_keeps_the_rest, what_touches_no_memory_needs_none, what_waits_changes_nothing,
+    a_cut_event_touches_no_other_disk, a_disk_does_as_its_host_says, a_dropped_slot_never_waits,
+    a_failed_event_keeps_the_rest, a_flight_outlasts_own_events, a_guest_alone_has_one_run,
+    a_release_makes_up_for_a_notification, a_restore_is_refused_for_one_cause,
+    a_restored_guest_goes_on, a_step_is_a_run, a_stop_between_events_loses_nothing,
+    an_event_marks_its_pages, an_honest_host_serves, each_guest_is_alone,
+    each_guest_is_alone_whatever_it_meets, identities_stay, no_chain_is_taken_on_hold,
+    nothing_else_is_seen, one_outcome, one_outcome_within, refusals_are_noted, two_runs_are_one,
+    want_of_memory_changes_nothing, want_of_memory_keeps_the_rest,
+    what_touches_no_memory_needs_none, what_waits_changes_nothing,
 };
 pub use mmio_window::{FaultNote, Stage};
 pub use pause::{Pause, Service, Turn, Work};

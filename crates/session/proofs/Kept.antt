@@ -11,7 +11,7 @@ use Rattle.board.specs.declared.reply.Reply.TheVariants as reply
 use Rattle.board.specs.declared.reply.Record.{Record}
 use Rattle.block_device.specs.Flights.{InFlight}
 use Rattle.board.specs.Backing.{HostDisk, tags_in}
-use Rattle.board.specs.Hosting.{LeavesTag}
+use Rattle.board.specs.HostedDisks.{LeavesTag, Own}
 use Rattle.board.specs.Image.{Health}
 use Rattle.board.specs.Outcome.{Outcome, replies}
 use Rattle.board.specs.Slot.{BoardSlot, SlotState}
@@ -163,7 +163,7 @@ step_flies old new event told tag here (Some state) h there other flies step =
     ap (λ (o : Option SlotState). option_and_then (λ (s : SlotState). flight_of tag s.host) o)
     (ap (λ (states : List SlotState). slice_get states event.slot) step.slots
     ∙ get_set (world_of old).slots event.slot state step.outcome.state there)
-    ∙ outlasts state tag here event.what (world_of old).health (world_of new).health step.outcome flies other
+    ∙ outlasts Own state tag here event.what (world_of old).health (world_of new).health step.outcome flies other
     step.given
 
 own_flies : {A : Type 0} (old new : SessionState) (event : Event A) (response : Response A) (tag : ℕ)

@@ -9,7 +9,7 @@ ghost use Rattle.board.specs.declared.event.EventKind.{EventKind};
 ghost use Rattle.board.specs.declared.reply.Reply.{Reply};
 ghost use Rattle.block_device.specs.Flights.{InFlight};
 ghost use Rattle.board.specs.Fault.{IsAccepted};
-ghost use Rattle.board.specs.Hosting.{LeavesTag};
+ghost use Rattle.board.specs.HostedDisks.{LeavesTag};
 ghost use Rattle.board.specs.Pausing.{HasLimit};
 ghost use Rattle.board.specs.Slot.{BoardSlot, SlotState, state_of};
 ghost use Rattle.board.specs.Untouched.{touches_memory};

@@ -5,5 +5,5 @@ pub returns-clause-course : goal.returns-clause-course
 returns-clause-course g c = λ slot old new moves state. has_course slot old moves new state
 
 pub returns-clause-lasts : goal.returns-clause-lasts
-returns-clause-lasts g c = λ slot old first later passage new tag place here before after course.
-    lasts old first later passage tag place here before after
+returns-clause-lasts g c = λ slot disk old first later passage new tag place here before after course.
+    lasts disk old first later passage tag place here before after

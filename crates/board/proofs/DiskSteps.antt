@@ -1,0 +1,596 @@
+-- In an event of its slot a disk that the host serves stays as it is, or its queue is looked at, or it does as its host says.
+use Rattle.std.proofs.Common.{◌≡◌, inl, inr, ℕ, zero, suc, Bool, true, false, Option, Some, None, List, [], ◌∷◌, ◌++◌, length, refl, sym, ◌∙◌, ap, subst}
+use Rattle.std.specs.Prelude.{if◌then◌else◌, slice_set}
+use Rattle.std.specs.List.{slice_get}
+use Rattle.std.specs.Option.{option_and_then, option_map, option_map_or}
+use Rattle.std.proofs.lemmas.Bool.Decides.{eqb_tells}
+use Rattle.std.proofs.lemmas.Option.{same_Some}
+use Rattle.guest_memory.specs.Memory.{Memory}
+use Rattle.mmio_window.specs.declared.action.Action.{Action}
+use Rattle.mmio_window.specs.declared.action.Action.TheVariants.{ConfigWrite, Notify}
+use Rattle.mmio_window.specs.Window.{WindowState}
+use Rattle.mmio_window.specs.Writing.{action_of, written}
+use Rattle.block_device.specs.declared.device.BlockDevice.{BlockDevice}
+use Rattle.block_device.specs.declared.operation.HostEvent.{HostEvent}
+use Rattle.block_device.specs.declared.operation.HostEvent.TheVariants.{Complete, Drop, Hold, Release}
+use Rattle.block_device.specs.Flights.{HostedQueue, InFlight, freed, given_up}
+use Rattle.hosted_disk.specs.Disk.{HostedDisk, LooksUnless, ServesDisk, queue_of}
+use Rattle.hosted_disk.specs.Told.{QueueTold, held_by}
+use Rattle.device_list.specs.Card.{Card, with_frame, with_link}
+use Rattle.device_list.specs.Device.{DeviceState, Finishes, Receives, ServesDevice, TakesSent, Told, Writes, linked, resized}
+use Rattle.device_list.specs.List.{At, are_at_work, changed_at}
+use Rattle.snapshot.specs.declared.saved.SavedDevice.{SavedDevice}
+use Rattle.device_list.specs.Saved.{device_window_restored, first_restored, with_window}
+use Rattle.device_list.specs.Model.{Block, Console, Entropy, ModelState, Network, Serves, configured, disk_of, supplied_model, with_card, with_terminal, without_sent}
+use Rattle.device_list.specs.Terminal.{Terminal, with_size}
+use Rattle.board.specs.declared.event.DeviceEvent.{DeviceEvent}
+use Rattle.board.specs.declared.event.DeviceEvent.TheVariants.{Plug, Read, Write, Supply, Receive, TakeSent, SetLink, Resize, Host}
+use Rattle.board.specs.declared.event.EventKind.{EventKind}
+use Rattle.board.specs.declared.event.EventKind.TheVariants as event
+use Rattle.board.specs.Backing.{HostDisk, tags_in, with_tags}
+use Rattle.board.specs.Devices.{DoesIf, DoesTo}
+use Rattle.board.specs.HostedDisks.{DiskUnit, Further, Own, SlotDisk, in_flight_of, on_hold_of, said_of, said_there, unit_of}
+use Rattle.board.specs.Hosting.{IsNoRestore, hosted_device, hosted_queue}
+use Rattle.board.specs.Image.{Health}
+use Rattle.board.specs.Machine.{readied}
+use Rattle.board.specs.Outcome.{Outcome}
+use Rattle.board.specs.Restoring.{IsTakenUp, RestoresUnless}
+use Rattle.board.specs.Slot.{SlotState}
+use Rattle.board.specs.World.{MayGive, MayGiveOverImage}
+use Rattle.board.proofs.FurtherDevices.{of_device}
+use Rattle.board.proofs.HostedDisks.{behind_window, further_over}
+use Rattle.board.proofs.Identities.{IsBesideDevices, given_fixed, readied_fixed}
+use Rattle.board.proofs.Lists.{get_set, others_kept}
+use Rattle.board.proofs.Ways.{Drops, Holds, Lands, Looks, Passes, Releases, Rests, Waits, Way, by_disk}
+
+-- The disk stays; a snapshot says whether it is on hold; it isn't there yet; its queue is looked at; or it does as its host
+-- says.
+pub data StepsTo {A : Type 0} (disk : SlotDisk) (what : EventKind A) (old new : SlotState) : Type 0 where
+  Stays :
+      in_flight_of disk new ≡ in_flight_of disk old → on_hold_of disk new ≡ on_hold_of disk old
+      → StepsTo disk what old new
+  Retakes : (IsNoRestore what → ⊥) → in_flight_of disk new ≡ in_flight_of disk old → StepsTo disk what old new
+  Comes : in_flight_of disk old ≡ [] → on_hold_of disk old ≡ false → StepsTo disk what old new
+  IsLooked :
+      (device : BlockDevice) (q q' : HostedQueue) → LooksUnless (on_hold_of disk old) device q q'
+      → q.tags ≡ in_flight_of disk old → in_flight_of disk new ≡ q'.tags
+      → on_hold_of disk new ≡ on_hold_of disk old → StepsTo disk what old new
+  IsTold :
+      (said : HostEvent) → said_of disk what ≡ Some said → (device : BlockDevice) (q q' : HostedQueue)
+      → QueueTold said device (on_hold_of disk old) q q' → q.tags ≡ in_flight_of disk old
+      → in_flight_of disk new ≡ q'.tags → on_hold_of disk new ≡ held_by said (on_hold_of disk old)
+      → StepsTo disk what old new
+
+-- ---- the slot's own
+
+own_passes : {A : Type 0} (what : EventKind A) (old new : SlotState) → new.host ≡ old.host
+    → (IsNoRestore what → new.on_hold ≡ old.on_hold) → StepsTo Own what old new
+own_passes (event.Restore bytes) old new host keeps = Retakes (λ never. never) (ap tags_in host)
+own_passes _ old new host keeps = Stays (ap tags_in host) (keeps tt)
+
+own_stays : {A : Type 0} (what : EventKind A) (old new : SlotState) → new ≡ old → StepsTo Own what old new
+own_stays what old new is = Stays (ap (λ (s : SlotState). tags_in s.host) is) (ap (λ (s : SlotState). s.on_hold) is)
+
+freed_in : (host : Option HostDisk) → tags_in (with_tags (freed (tags_in host)) host) ≡ freed (tags_in host)
+freed_in None = refl
+freed_in (Some disk) = refl
+
+own_way : {A : Type 0} (what : EventKind A) (old : SlotState) (before : Health) (outcome : Outcome A)
+    → Way (λ (o : Outcome A). MayGiveOverImage old what before before o) old what outcome
+    → StepsTo Own what old outcome.state
+own_way {A} what old before outcome (Waits waits h) =
+    own_stays what old outcome.state (ap (λ (o : Outcome A). o.state) h)
+own_way what old before outcome (Passes own free quiet h) =
+    let kept = given_fixed old what before before outcome h in
+    own_passes what old outcome.state kept.host kept.on_hold
+own_way what old before outcome (Looks rings looks h) =
+    let ready = readied what old in
+    let kept = readied_fixed what old in
+    IsLooked (hosted_device ready) (hosted_queue ready) (hosted_queue outcome.state)
+    (subst (λ (b : Bool). LooksUnless b (hosted_device ready) (hosted_queue ready) (hosted_queue outcome.state))
+    (kept.on_hold tt) looks.looks) (ap tags_in kept.host) refl
+    (ap (λ (s : SlotState). s.on_hold) looks.rest ∙ kept.on_hold tt)
+own_way {A} what old before outcome (Rests said is h) =
+    own_stays what old outcome.state (ap (λ (o : Outcome A). o.state) h)
+own_way what old before outcome (Lands tag verdict is completes h) =
+    let landed = completes.landed in
+    let on_hold : landed.on_hold ≡ old.on_hold = ap (λ (s : SlotState). s.on_hold) completes.lands.rest in
+    IsTold (Complete tag verdict) is (hosted_device landed) (hosted_queue old) (hosted_queue outcome.state)
+    (record {
+      landed = hosted_queue landed;
+      lands = completes.lands.lands;
+      looks = subst (λ (b : Bool).
+          LooksUnless b (hosted_device landed) (hosted_queue landed) (hosted_queue outcome.state)) on_hold
+          completes.looks.looks;
+    }) refl refl (ap (λ (s : SlotState). s.on_hold) completes.looks.rest ∙ on_hold)
+own_way {A} what old before outcome (Drops is h) =
+    IsTold Drop is (hosted_device old) (hosted_queue old) (given_up (hosted_queue old)) refl refl
+    (ap (λ (o : Outcome A). tags_in o.state.host) h ∙ freed_in old.host)
+    (ap (λ (o : Outcome A). o.state.on_hold) h)
+own_way {A} what old before outcome (Holds is h) =
+    IsTold Hold is (hosted_device old) (hosted_queue old) (hosted_queue old) refl refl
+    (ap (λ (o : Outcome A). tags_in o.state.host) h) (ap (λ (o : Outcome A). o.state.on_hold) h)
+own_way what old before outcome (Releases is looks h) =
+    IsTold Release is (hosted_device old) (hosted_queue old) (hosted_queue outcome.state) looks.looks refl refl
+    (ap (λ (s : SlotState). s.on_hold) looks.rest)
+
+own_steps : {A : Type 0} (what : EventKind A) (old : SlotState) (before after : Health) (outcome : Outcome A)
+    → MayGive old what before after outcome → StepsTo Own what old outcome.state
+own_steps what old before after outcome h =
+    by_disk old.host old what before after outcome
+    (λ given. let kept = given_fixed old what before after outcome given in
+    own_passes what old outcome.state kept.host kept.on_hold)
+    (λ image ways. own_way what old before outcome ways) h
+
+-- ---- what stands behind the window of a further device
+
+abbrev flights_in : ModelState → List (Option InFlight)
+flights_in model = option_map_or (λ (disk : HostedDisk). disk.tags) (disk_of model) []
+
+abbrev holds_in : ModelState → Bool
+holds_in model = option_map_or (λ (disk : HostedDisk). disk.on_hold) (disk_of model) false
+
+unit_flights : (window : WindowState) (model : ModelState)
+    → option_map_or (λ (u : DiskUnit). u.disk.tags) (option_map (behind_window window) (disk_of model)) []
+    ≡ flights_in model
+unit_flights window (Block disk) = refl
+unit_flights window _ = refl
+
+unit_holds : (window : WindowState) (model : ModelState)
+    → option_map_or (λ (u : DiskUnit). u.disk.on_hold) (option_map (behind_window window) (disk_of model)) false
+    ≡ holds_in model
+unit_holds window (Block disk) = refl
+unit_holds window _ = refl
+
+flights_at : (n : ℕ) (state : SlotState) (d : DeviceState) → slice_get state.devices n ≡ Some d
+    → in_flight_of (Further n) state ≡ flights_in d.model
+flights_at n state d there =
+    ap (λ (found : Option DeviceState). option_map_or (λ (u : DiskUnit). u.disk.tags) (option_and_then unit_of found) [])
+    there ∙ unit_flights d.window d.model
+
+holds_at : (n : ℕ) (state : SlotState) (d : DeviceState) → slice_get state.devices n ≡ Some d
+    → on_hold_of (Further n) state ≡ holds_in d.model
+holds_at n state d there =
+    ap (λ (found : Option DeviceState).
+    option_map_or (λ (u : DiskUnit). u.disk.on_hold) (option_and_then unit_of found) false) there
+    ∙ unit_holds d.window d.model
+
+-- It stays, its queue is looked at, or the host says this of it, as may be.
+data ModelSteps (May : HostEvent → Type 0) (one other : ModelState) : Type 0 where
+  Same : flights_in other ≡ flights_in one → holds_in other ≡ holds_in one → ModelSteps May one other
+  Looked :
+      (device : BlockDevice) (q q' : HostedQueue) → LooksUnless (holds_in one) device q q'
+      → q.tags ≡ flights_in one → flights_in other ≡ q'.tags → holds_in other ≡ holds_in one
+      → ModelSteps May one other
+  Word :
+      (said : HostEvent) → May said → (device : BlockDevice) (q q' : HostedQueue)
+      → QueueTold said device (holds_in one) q q' → q.tags ≡ flights_in one → flights_in other ≡ q'.tags
+      → holds_in other ≡ held_by said (holds_in one) → ModelSteps May one other
+
+module _ (May : HostEvent → Type 0) where
+  same_model : (one other : ModelState) → other ≡ one → ModelSteps May one other
+  same_model one other is = Same (ap flights_in is) (ap holds_in is)
+
+  -- of another type than a disk nothing is in flight
+  no_disk : (one other : ModelState) → flights_in one ≡ [] → holds_in one ≡ false → flights_in other ≡ []
+      → holds_in other ≡ false → ModelSteps May one other
+  no_disk one other tags holds tags' holds' = Same (tags' ∙ sym tags) (holds' ∙ sym holds)
+
+  disk_serves : (disk : HostedDisk) (q : ℕ) (m m' : Memory) (w w' : WindowState) (after : HostedDisk)
+      → ServesDisk disk q m m' w w' after → (other : ModelState) → other ≡ Block after
+      → ModelSteps May (Block disk) other
+  disk_serves disk zero m m' w w' after h other is =
+      Looked disk.device (queue_of m w disk) (queue_of m' w' after) h.looks refl (ap flights_in is)
+      (ap holds_in is ∙ ap (λ (d : HostedDisk). d.on_hold) h.is)
+  disk_serves disk (suc q) m m' w w' after h other is =
+      same_model (Block disk) other (is ∙ ap Block h.state)
+
+  serves_steps : (model : ModelState) (q : ℕ) (m m' : Memory) (w w' : WindowState) (other : ModelState)
+      → Serves model q m m' w w' other → ModelSteps May model other
+  serves_steps (Entropy pool) zero m m' w w' other h =
+      no_disk (Entropy pool) other refl refl (ap flights_in h.is) (ap holds_in h.is)
+  serves_steps (Entropy pool) (suc q) m m' w w' other h = same_model (Entropy pool) other h.state
+  serves_steps (Network card) q m m' w w' other h =
+      no_disk (Network card) other refl refl (ap flights_in h.is) (ap holds_in h.is)
+  serves_steps (Block disk) q m m' w w' other h = disk_serves disk q m m' w w' h.after h.serves other h.is
+  serves_steps (Console terminal) q m m' w w' other h =
+      no_disk (Console terminal) other refl refl (ap flights_in h.is) (ap holds_in h.is)
+
+  -- a change that leaves disks alone, and then that
+  changed_steps : (one changed other : ModelState) → flights_in changed ≡ flights_in one
+      → holds_in changed ≡ holds_in one → ModelSteps May changed other → ModelSteps May one other
+  changed_steps one changed other tags holds (Same tags' holds') = Same (tags' ∙ tags) (holds' ∙ holds)
+  changed_steps one changed other tags holds (Looked device q q' looks from to on_hold) =
+      Looked device q q' (subst (λ (b : Bool). LooksUnless b device q q') holds looks) (from ∙ tags) to
+      (on_hold ∙ holds)
+  changed_steps one changed other tags holds (Word said may device q q' told from to on_hold) =
+      Word said may device q q' (subst (λ (b : Bool). QueueTold said device b q q') holds told) (from ∙ tags) to
+      (on_hold ∙ ap (held_by said) holds)
+
+-- what changes the other types leaves a disk
+abbrev LeavesDisks : (ModelState → ModelState) → Type 0
+LeavesDisks change = (model : ModelState)
+    → (flights_in (change model) ≡ flights_in model) × (holds_in (change model) ≡ holds_in model)
+
+cards_leave : (change : Card → Card) → LeavesDisks (with_card change)
+cards_leave change (Network card) = (refl, refl)
+cards_leave change _ = (refl, refl)
+
+terminals_leave : (change : Terminal → Terminal) → LeavesDisks (with_terminal change)
+terminals_leave change (Console terminal) = (refl, refl)
+terminals_leave change _ = (refl, refl)
+
+sent_leaves : LeavesDisks without_sent
+sent_leaves (Network card) = (refl, refl)
+sent_leaves (Console terminal) = (refl, refl)
+sent_leaves _ = (refl, refl)
+
+supplied_leaves : (bytes : List ℕ) → LeavesDisks (λ model. supplied_model model bytes)
+supplied_leaves bytes (Entropy pool) = (refl, refl)
+supplied_leaves bytes (Console terminal) = (refl, refl)
+supplied_leaves bytes _ = (refl, refl)
+
+configured_leaves : (offset value : ℕ) → LeavesDisks (configured offset value)
+configured_leaves offset value (Console terminal) = (refl, refl)
+configured_leaves offset value _ = (refl, refl)
+
+-- ---- a further device
+
+-- what there is of device n behind what was done to device k, if device n was this
+record Left {A : Type 0} (k : ℕ) (what : DeviceEvent A) (n : ℕ) (d : DeviceState) (new : List DeviceState)
+    : Type 0 where
+  after : DeviceState
+  there : slice_get new n ≡ Some after
+  steps : ModelSteps (λ said. (k ≡ n) × (said_there what ≡ Some said)) d.model after.model
+
+module _ {A : Type 0} (k : ℕ) (what : DeviceEvent A) (n : ℕ) (d : DeviceState) where
+  abbrev May : HostEvent → Type 0
+  May said = (k ≡ n) × (said_there what ≡ Some said)
+
+  unchanged : (old new : List DeviceState) → slice_get old n ≡ Some d → new ≡ old → Left k what n d new
+  unchanged old new there is = record {
+    after = d;
+    there = ap (λ (devices : List DeviceState). slice_get devices n) is ∙ there;
+    steps = same_model May d.model d.model refl;
+  }
+
+  -- device k became this
+  at_left : (old new : List DeviceState) (before after : DeviceState) → slice_get old n ≡ Some d
+      → slice_get old k ≡ Some before → new ≡ slice_set old k after
+      → (k ≡ n → ModelSteps May before.model after.model) → Left k what n d new
+  at_left old new before after there was is steps =
+      elim (eqb_tells k n) [
+        | inl same ↦
+            let here : slice_get old n ≡ Some before =
+            ap (λ (j : ℕ). slice_get old j) (sym same.1) ∙ was in
+            let this : before ≡ d = same_Some before d (sym here ∙ there) in
+            record {
+              after = after;
+              there = ap (λ (devices : List DeviceState). slice_get devices n) is
+                  ∙ (ap (λ (j : ℕ). slice_get (slice_set old j after) n) same.1 ∙ get_set old n before after here);
+              steps = subst (λ (x : DeviceState). ModelSteps May x.model after.model) this (steps same.1);
+            }
+        | inr other ↦
+            record {
+              after = d;
+              there = ap (λ (devices : List DeviceState). slice_get devices n) is
+                  ∙ (others_kept old k after n (λ same. other.1 (sym same)) ∙ there);
+              steps = same_model May d.model d.model refl;
+            }
+      ]
+
+  done_left : (Changes : Memory → Memory → DeviceState → DeviceState → Type 0) (m m' : Memory)
+      (old new : List DeviceState) → slice_get old n ≡ Some d → At Changes k m m' old new
+      → ((before after : DeviceState) → k ≡ n → Changes m m' before after → ModelSteps May before.model after.model)
+      → Left k what n d new
+  done_left Changes m m' old new there at steps =
+      at_left old new at.before at.after there at.there at.is (λ same. steps at.before at.after same at.changes)
+
+  if_left : (cause : Bool) (Changes : Memory → Memory → DeviceState → DeviceState → Type 0) (m m' : Memory)
+      (old new : List DeviceState) → slice_get old n ≡ Some d → DoesIf cause Changes k m m' old new
+      → ((before after : DeviceState) → k ≡ n → Changes m m' before after → ModelSteps May before.model after.model)
+      → Left k what n d new
+  if_left true Changes m m' old new there at steps = done_left Changes m m' old new there at steps
+  if_left false Changes m m' old new there set steps = unchanged old new there set.devices
+
+  changed_left : (change : DeviceState → DeviceState) (old new : List DeviceState) → slice_get old n ≡ Some d
+      → new ≡ changed_at change k old → ((e : DeviceState) → ModelSteps May e.model (change e).model)
+      → Left k what n d new
+  changed_left change old new there is steps = by_found (slice_get old k) refl is
+    where
+      by_found : (found : Option DeviceState) → slice_get old k ≡ found
+          → new ≡ option_map_or (λ e. slice_set old k (change e)) found old → Left k what n d new
+      by_found None was is = unchanged old new there is
+      by_found (Some e) was is = at_left old new e (change e) there was is (λ same. steps e)
+
+  appended : (old new more : List DeviceState) → slice_get old n ≡ Some d → new ≡ old ++ more → Left k what n d new
+  appended old new more there is = record {
+    after = d;
+    there = ap (λ (devices : List DeviceState). slice_get devices n) is ∙ in_front old n there;
+    steps = same_model May d.model d.model refl;
+  }
+    where
+      in_front : (devices : List DeviceState) (i : ℕ) → slice_get devices i ≡ Some d
+          → slice_get (devices ++ more) i ≡ Some d
+      in_front [] i there = absurd (cc there)
+      in_front (e ∷ devices) zero there = there
+      in_front (e ∷ devices) (suc i) there = in_front devices i there
+
+finished_steps : (May : HostEvent → Type 0) (action : Action) (m m' : Memory) (d d' : DeviceState)
+    → Finishes action m m' d d' → ModelSteps May d.model d'.model
+finished_steps May (Notify q) m m' d d' h = serves_steps May d.model q m m' d.window d'.window d'.model h
+finished_steps May (ConfigWrite offset width value) m m' d d' h =
+    let left = configured_leaves offset value d.model in
+    let model : d'.model ≡ configured offset value d.model = ap (λ (e : DeviceState). e.model) h.is in
+    Same (ap flights_in model ∙ left.0) (ap holds_in model ∙ left.1)
+finished_steps May _ m m' d d' h = same_model May d.model d'.model h.state
+
+-- the host changes it so, and then its queue is served
+after_steps : (May : HostEvent → Type 0) (change : ModelState → ModelState) (q : ℕ) (m m' : Memory)
+    (d d' : DeviceState) → LeavesDisks change → ServesDevice q m m' (record d { model = change d.model }) d'
+    → ModelSteps May d.model d'.model
+after_steps May change q m m' d d' leaves h =
+    changed_steps May d.model (change d.model) d'.model (leaves d.model).0 (leaves d.model).1
+    (serves_steps May (change d.model) q m m' d.window d'.window d'.model h)
+
+told_steps : (May : HostEvent → Type 0) (said : HostEvent) (m m' : Memory) (d d' : DeviceState) → May said
+    → Told said m m' d d' → ModelSteps May d.model d'.model
+told_steps May said m m' d d' may told =
+    subst (λ (model : ModelState). ModelSteps May model d'.model) (sym told.there)
+    (Word said may told.before.device (queue_of m d.window told.before) (queue_of m' d'.window told.after)
+    told.does.queue refl (ap flights_in told.is)
+    (ap holds_in told.is ∙ ap (λ (disk : HostedDisk). disk.on_hold) told.does.is))
+
+does_left : {A : Type 0} (k n : ℕ) (what : DeviceEvent A) (d : DeviceState) (m m' : Memory)
+    (old new : List DeviceState) → slice_get old n ≡ Some d → DoesTo what k m m' old new → Left k what n d new
+does_left k n (Plug spec) d m m' old new there h = appended k (Plug spec) n d old new _ there h.devices
+does_left k n (SetLink up) d m m' old new there h =
+    changed_left k (SetLink up) n d (linked up) old new there h.devices (λ e.
+    let left = cards_leave (with_link up) e.model in Same left.0 left.1)
+does_left k n (Resize cols rows) d m m' old new there h =
+    changed_left k (Resize cols rows) n d (resized cols rows) old new there h.devices (λ e.
+    let left = terminals_leave (with_size cols rows) e.model in Same left.0 left.1)
+does_left {A} k n (Receive frame) d m m' old new there h =
+    if_left k (Receive frame) n d _ (Receives frame) m m' old new there h (λ e e' same received.
+    after_steps _ (with_card (with_frame frame)) 0 m m' e e' (cards_leave (with_frame frame)) received)
+does_left {A} k n TakeSent d m m' old new there h =
+    if_left k TakeSent n d _ TakesSent m m' old new there h (λ e e' same taken.
+    after_steps _ without_sent 1 m m' e e' sent_leaves taken)
+does_left {A} k n (Write offset width value) d m m' old new there h =
+    if_left k (Write offset width value) n d _ (Writes offset width value) m m' old new there h
+    (λ e e' same wrote. finished_steps _ (action_of offset width value e.window) m m'
+    (record e { window = written offset width value m e.window }) e' wrote)
+does_left {A} k n (Host said) d m m' old new there h =
+    if_left k (Host said) n d _ (Told said) m m' old new there h (λ e e' same told.
+    told_steps _ said m m' e e' (same, refl) told)
+does_left {A} k n (Supply bytes) d m m' old new there h =
+    at_left k (Supply bytes) n d old new h.before h.after there h.there h.is (λ same.
+    after_steps _ (λ model. supplied_model model bytes) 0 m m' h.before h.after (supplied_leaves bytes) h.changes)
+does_left {A} k n (Read offset width) d m m' old new there h =
+    at_left k (Read offset width) n d old new h.before h.after there h.there h.is (λ same.
+    same_model _ h.before.model h.after.model (ap (λ (e : DeviceState). e.model) h.changes.device))
+
+-- ---- a further disk
+
+-- what the host says of the device it says of the disk
+said_here : {A : Type 0} (k n : ℕ) (what : DeviceEvent A) (said : HostEvent) → k ≡ n → said_there what ≡ Some said
+    → said_of (Further n) (event.Device k what) ≡ Some said
+said_here k n what said same told =
+    elim (eqb_tells k n) [
+      | inl is ↦ ap (λ (b : Bool). if b then said_there what else None) is.0 ∙ told
+      | inr other ↦ absurd (other.1 same)
+    ]
+
+model_steps : {A : Type 0} (k n : ℕ) (what : DeviceEvent A) (old new : SlotState) (d : DeviceState)
+    → slice_get old.devices n ≡ Some d → Left k what n d new.devices
+    → StepsTo (Further n) (event.Device k what) old new
+model_steps {A} k n what old new d there left =
+    by_steps left.steps
+  where
+    tags : in_flight_of (Further n) old ≡ flights_in d.model
+    tags = flights_at n old d there
+
+    tags' : in_flight_of (Further n) new ≡ flights_in left.after.model
+    tags' = flights_at n new left.after left.there
+
+    holds : on_hold_of (Further n) old ≡ holds_in d.model
+    holds = holds_at n old d there
+
+    holds' : on_hold_of (Further n) new ≡ holds_in left.after.model
+    holds' = holds_at n new left.after left.there
+
+    by_steps : ModelSteps (λ said. (k ≡ n) × (said_there what ≡ Some said)) d.model left.after.model
+        → StepsTo (Further n) (event.Device k what) old new
+    by_steps (Same kept on_hold) = Stays (tags' ∙ (kept ∙ sym tags)) (holds' ∙ (on_hold ∙ sym holds))
+    by_steps (Looked device q q' looks from to on_hold) =
+        IsLooked device q q' (subst (λ (b : Bool). LooksUnless b device q q') (sym holds) looks) (from ∙ sym tags)
+        (tags' ∙ to) (holds' ∙ (on_hold ∙ sym holds))
+    by_steps (Word said may device q q' told from to on_hold) =
+        IsTold said (said_here k n what said may.0 may.1) device q q'
+        (subst (λ (b : Bool). QueueTold said device b q q') (sym holds) told) (from ∙ sym tags) (tags' ∙ to)
+        (holds' ∙ (on_hold ∙ ap (held_by said) (sym holds)))
+
+further_stays : {A : Type 0} (n : ℕ) (what : EventKind A) (old new : SlotState) → new.devices ≡ old.devices
+    → StepsTo (Further n) what old new
+further_stays n what old new is =
+    let found : Option DeviceState → Option DiskUnit = option_and_then unit_of in
+    Stays
+    (ap (λ (l : List DeviceState). option_map_or (λ (u : DiskUnit). u.disk.tags) (found (slice_get l n)) []) is)
+    (ap (λ (l : List DeviceState). option_map_or (λ (u : DiskUnit). u.disk.on_hold) (found (slice_get l n)) false) is)
+
+comes : {A : Type 0} (n : ℕ) (what : EventKind A) (old new : SlotState) → slice_get old.devices n ≡ None
+    → StepsTo (Further n) what old new
+comes n what old new none =
+    Comes
+    (ap (λ (f : Option DeviceState). option_map_or (λ (u : DiskUnit). u.disk.tags) (option_and_then unit_of f) []) none)
+    (ap (λ (f : Option DeviceState). option_map_or (λ (u : DiskUnit). u.disk.on_hold) (option_and_then unit_of f)
+    false) none)
+
+device_steps : {A : Type 0} (n k : ℕ) (what : DeviceEvent A) (old : SlotState) (before after : Health)
+    (outcome : Outcome A) (found : Option DeviceState) → slice_get old.devices n ≡ found
+    → MayGiveOverImage old (event.Device k what) before after outcome
+    → StepsTo (Further n) (event.Device k what) old outcome.state
+device_steps n k what old before after outcome None none h = comes n (event.Device k what) old outcome.state none
+device_steps {A} n k what old before after outcome (Some d) there (inl served) =
+    of_device k what old (λ (o : Outcome A). StepsTo (Further n) (event.Device k what) old o.state) before after
+    outcome served.alike (further_stays n (event.Device k what) old old refl)
+    (λ reply is step. model_steps k n what old outcome.state d there
+    (does_left k n what d old.memory outcome.state.memory old.devices outcome.state.devices there step.at))
+device_steps {A} n k what old before after outcome (Some d) there (inr unmet) =
+    further_stays n (event.Device k what) old outcome.state
+    (ap (λ (o : Outcome A). o.state.devices) unmet.unchanged)
+
+-- ---- a restore
+
+-- a device on this model stands there
+record StandsOn (n : ℕ) (model : ModelState) (devices : List DeviceState) : Type 0 where
+  device : DeviceState
+  there : slice_get devices n ≡ Some device
+  on : device.model ≡ model
+
+put_on : (n k : ℕ) (model : ModelState) (w : WindowState) (mid new : List DeviceState) (found : Option DeviceState)
+    → slice_get mid k ≡ found
+    → option_map (λ (e : DeviceState). slice_set mid k (record e { window = w })) found ≡ Some new
+    → StandsOn n model mid → StandsOn n model new
+put_on n k model w mid new None was is stands = absurd (cc is)
+put_on n k model w mid new (Some e) was is stands =
+    let put : new ≡ slice_set mid k (record e { window = w }) =
+    sym (same_Some (slice_set mid k (record e { window = w })) new is) in
+    elim (eqb_tells k n) [
+      | inl same ↦
+          let here : slice_get mid n ≡ Some e = ap (λ (j : ℕ). slice_get mid j) (sym same.1) ∙ was in
+          record {
+            device = record e { window = w };
+            there = ap (λ (l : List DeviceState). slice_get l n) put
+                ∙ (ap (λ (j : ℕ). slice_get (slice_set mid j (record e { window = w })) n) same.1
+                ∙ get_set mid n e (record e { window = w }) here);
+            on = ap (λ (x : DeviceState). x.model) (same_Some e stands.device (sym here ∙ stands.there)) ∙ stands.on;
+          }
+      | inr other ↦
+          record {
+            device = stands.device;
+            there = ap (λ (l : List DeviceState). slice_get l n) put
+                ∙ (others_kept mid k (record e { window = w }) n (λ same. other.1 (sym same)) ∙ stands.there);
+            on = stands.on;
+          }
+    ]
+
+restored_on : (m : Memory) (count n : ℕ) (model : ModelState) (saved : List SavedDevice) (devices new : List DeviceState)
+    → StandsOn n model devices → first_restored m count saved devices ≡ Some new → StandsOn n model new
+restored_on m zero n model saved devices new stands is =
+    subst (StandsOn n model) (same_Some devices new is) stands
+restored_on m (suc k) n model saved devices new stands is =
+    by_saved (λ mid before. restored_on m k n model saved devices mid stands before) (slice_get saved k) is
+  where
+    by_mid : ((mid : List DeviceState) → first_restored m k saved devices ≡ Some mid → StandsOn n model mid)
+        → (w : WindowState) (mid : Option (List DeviceState)) → first_restored m k saved devices ≡ mid
+        → option_and_then (with_window k w) mid ≡ Some new → StandsOn n model new
+    by_mid again w None before is = absurd (cc is)
+    by_mid again w (Some mid) before is = put_on n k model w mid new (slice_get mid k) refl is (again mid before)
+
+    by_window : ((mid : List DeviceState) → first_restored m k saved devices ≡ Some mid → StandsOn n model mid)
+        → (found : Option WindowState)
+        → option_and_then (λ window. option_and_then (with_window k window) (first_restored m k saved devices)) found
+        ≡ Some new → StandsOn n model new
+    by_window again None is = absurd (cc is)
+    by_window again (Some w) is = by_mid again w (first_restored m k saved devices) refl is
+
+    by_device : ((mid : List DeviceState) → first_restored m k saved devices ≡ Some mid → StandsOn n model mid)
+        → (of_device : SavedDevice) (found : Option DeviceState)
+        → option_and_then (λ device.
+        option_and_then (λ window. option_and_then (with_window k window) (first_restored m k saved devices))
+        (device_window_restored m of_device device)) found ≡ Some new → StandsOn n model new
+    by_device again of_device None is = absurd (cc is)
+    by_device again of_device (Some device) is = by_window again (device_window_restored m of_device device) is
+
+    by_saved : ((mid : List DeviceState) → first_restored m k saved devices ≡ Some mid → StandsOn n model mid)
+        → (found : Option SavedDevice)
+        → option_and_then (λ of_device.
+        option_and_then (λ device.
+        option_and_then (λ window. option_and_then (with_window k window) (first_restored m k saved devices))
+        (device_window_restored m of_device device)) (slice_get devices k)) found ≡ Some new → StandsOn n model new
+    by_saved again None is = absurd (cc is)
+    by_saved again (Some of_device) is = by_device again of_device (slice_get devices k) is
+
+taken_up : {A : Type 0} (n : ℕ) (old new : SlotState) (bytes : List ℕ) (found : Option DeviceState)
+    → slice_get old.devices n ≡ found → IsTakenUp old bytes new
+    → StepsTo {A = A} (Further n) (event.Restore bytes) old new
+taken_up n old new bytes None none h = comes n (event.Restore bytes) old new none
+taken_up n old new bytes (Some d) there h =
+    let saved = h.restored.saved.devices.items in
+    let stands = restored_on old.memory (length saved) n d.model saved old.devices new.devices
+    (record { device = d; there = there; on = refl }) h.restored.takes_up.devices in
+    Stays
+    (flights_at n new stands.device stands.there ∙ (ap flights_in stands.on ∙ sym (flights_at n old d there)))
+    (holds_at n new stands.device stands.there ∙ (ap holds_in stands.on ∙ sym (holds_at n old d there)))
+
+restore_steps : {A : Type 0} (works : Bool) (n : ℕ) (bytes : List ℕ) (old : SlotState) (outcome : Outcome A)
+    → RestoresUnless works old bytes outcome → StepsTo {A = A} (Further n) (event.Restore bytes) old outcome.state
+restore_steps {A} true n bytes old outcome h =
+    further_stays n (event.Restore bytes) old outcome.state (ap (λ (o : Outcome A). o.state.devices) h)
+restore_steps false n bytes old outcome (inl h) =
+    taken_up n old outcome.state bytes (slice_get old.devices n) refl h.0
+restore_steps {A} false n bytes old outcome (inr h) =
+    further_stays n (event.Restore bytes) old outcome.state (ap (λ (o : Outcome A). o.state.devices) h.1)
+
+restore_over : {A : Type 0} (n : ℕ) (bytes : List ℕ) (old : SlotState) (before after : Health) (outcome : Outcome A)
+    → MayGiveOverImage old (event.Restore bytes) before after outcome
+    → StepsTo {A = A} (Further n) (event.Restore bytes) old outcome.state
+restore_over n bytes old before after outcome (inl served) =
+    restore_steps (are_at_work old.devices) n bytes old outcome served.alike.alike
+restore_over n bytes old before after outcome (inr refused) = absurd refused
+
+-- ---- any other event leaves the further devices
+
+way_devices : {A : Type 0} (what : EventKind A) (old : SlotState) (before : Health) (outcome : Outcome A)
+    → IsBesideDevices what → Way (λ (o : Outcome A). MayGiveOverImage old what before before o) old what outcome
+    → outcome.state.devices ≡ old.devices
+way_devices {A} what old before outcome beside (Waits waits h) = ap (λ (o : Outcome A). o.state.devices) h
+way_devices what old before outcome beside (Passes own free quiet h) =
+    (given_fixed old what before before outcome h).devices beside
+way_devices what old before outcome beside (Looks rings looks h) =
+    ap (λ (s : SlotState). s.devices) looks.rest ∙ (readied_fixed what old).devices tt
+way_devices {A} what old before outcome beside (Rests said is h) = ap (λ (o : Outcome A). o.state.devices) h
+way_devices what old before outcome beside (Lands tag verdict is completes h) =
+    ap (λ (s : SlotState). s.devices) completes.looks.rest ∙ ap (λ (s : SlotState). s.devices) completes.lands.rest
+way_devices {A} what old before outcome beside (Drops is h) = ap (λ (o : Outcome A). o.state.devices) h
+way_devices {A} what old before outcome beside (Holds is h) = ap (λ (o : Outcome A). o.state.devices) h
+way_devices what old before outcome beside (Releases is looks h) = ap (λ (s : SlotState). s.devices) looks.rest
+
+beside_devices : {A : Type 0} (what : EventKind A) (old : SlotState) (before after : Health) (outcome : Outcome A)
+    → IsBesideDevices what → MayGive old what before after outcome → outcome.state.devices ≡ old.devices
+beside_devices what old before after outcome beside h =
+    by_disk old.host old what before after outcome
+    (λ given. (given_fixed old what before after outcome given).devices beside)
+    (λ image ways. way_devices what old before outcome beside ways) h
+
+restore_way : {A : Type 0} (n : ℕ) (bytes : List ℕ) (old : SlotState) (before : Health) (outcome : Outcome A)
+    → Way (λ (o : Outcome A). MayGiveOverImage old (event.Restore bytes) before before o) old (event.Restore bytes)
+    outcome → StepsTo {A = A} (Further n) (event.Restore bytes) old outcome.state
+restore_way {A} n bytes old before outcome (Waits waits h) =
+    further_stays n (event.Restore bytes) old outcome.state (ap (λ (o : Outcome A). o.state.devices) h)
+restore_way n bytes old before outcome (Passes own free quiet h) = restore_over n bytes old before before outcome h
+restore_way n bytes old before outcome (Looks rings looks h) = absurd (cc rings)
+restore_way n bytes old before outcome (Rests said is h) = absurd (cc is)
+restore_way n bytes old before outcome (Lands tag verdict is completes h) = absurd (cc is)
+restore_way n bytes old before outcome (Drops is h) = absurd (cc is)
+restore_way n bytes old before outcome (Holds is h) = absurd (cc is)
+restore_way n bytes old before outcome (Releases is looks h) = absurd (cc is)
+
+further_steps : {A : Type 0} (n : ℕ) (what : EventKind A) (old : SlotState) (before after : Health)
+    (outcome : Outcome A) → MayGive old what before after outcome → StepsTo (Further n) what old outcome.state
+further_steps n (event.Device k what) old before after outcome h =
+    further_over k what old before after outcome
+    (λ one other given. device_steps n k what old one other outcome (slice_get old.devices n) refl given) h
+further_steps n (event.Restore bytes) old before after outcome h =
+    by_disk old.host old (event.Restore bytes) before after outcome
+    (λ given. restore_over n bytes old before after outcome given)
+    (λ image ways. restore_way n bytes old before outcome ways) h
+further_steps n what old before after outcome h =
+    further_stays n what old outcome.state (beside_devices what old before after outcome tt h)
+
+-- in each event of the slot
+pub steps : {A : Type 0} (disk : SlotDisk) (what : EventKind A) (old : SlotState) (before after : Health)
+    (outcome : Outcome A) → MayGive old what before after outcome → StepsTo disk what old outcome.state
+steps Own what old before after outcome h = own_steps what old before after outcome h
+steps (Further n) what old before after outcome h = further_steps n what old before after outcome h
