@@ -1,6 +1,7 @@
 /*
  * How long fifteen guests wait for a 4 KiB IN beside one that keeps the board as busy as it can, under one lock:
- * without a budget, with two, and where the host serves the disks, by a disk and by a console. bench/waits builds it.
+ * without a budget, with two, and where the host serves the disks, by a disk, by a console and by further devices, whose
+ * services no budget cuts. bench/waits builds it.
  *
  * In each round every guest asks at once, the hostile one is called first, and the others one after another. What each
  * of them waits is the time from the round's start to the end of its own call. A host that serves the disks moves no
@@ -92,6 +93,8 @@ static void make(bool hosted, uint32_t depth, uint32_t chains, uint64_t bytes)
             .start = i ? SECTORS + (uint64_t)i * LEN / 512 : 0, .count = i ? LEN / 512 : SECTORS,
             .cols = 80, .rows = 25, .outlet = TEXT, .hosted = hosted,
             .depth = depth,
+            .devices = { { .kind = KALYUBOS_CONSOLE_DEVICE, .cols = 80, .rows = 25 },
+                         { .kind = KALYUBOS_NETWORK, .mtu = 1500 } },
         };
     config.image = image;
     config.image_len = hosted ? 0 : sizeof image;
@@ -179,14 +182,18 @@ static void keep_best(double *best, double took, int run)
         *best = took;
 }
 
-/* What the hostile guest does where the host serves the disks: what it begins with, and each of so many calls. */
+/* What the hostile guest does where the host serves the disks: what it begins with, and each of so many calls. Of a further
+ * device it is the window. */
 struct hostile {
     void (*begin)(const struct hostile *it);
     uint32_t (*call)(const struct hostile *it, uint32_t answer);
     int calls;
     uint32_t depth, chains, len;
     uint16_t buffers;
+    uint8_t window;
 };
+
+enum { CONSOLE = KALYUBOS_DEVICE, CARD = KALYUBOS_DEVICE + 1 };
 
 static void begin_reads(const struct hostile *it)
 {
@@ -213,8 +220,8 @@ static uint32_t call_disk(const struct hostile *it, uint32_t answer)
     return answer;
 }
 
-/* Either window has one queue of 256, with INDIRECT_DESC, whose every chain is a table of 256 buffers. */
-static void begin_tables(uint8_t window, uint32_t queue)
+/* A window has one queue of 256, with INDIRECT_DESC, whose every chain is a table of 256 buffers of so many bytes. */
+static void begin_tables(uint8_t window, uint32_t queue, uint32_t len)
 {
     const uint32_t steps[][2] = { { 0x70, 0 }, { 0x70, 1 }, { 0x70, 3 }, { 0x24, 0 }, { 0x20, 1 << 28 }, { 0x24, 1 },
                                   { 0x20, 1 }, { 0x70, 11 }, { 0x30, queue }, { 0x38, RING }, { 0x80, 0x80001000 },
@@ -229,7 +236,7 @@ static void begin_tables(uint8_t window, uint32_t queue)
         descriptor(0, i, table, RING * 16, 4, 0);
         memcpy(memory[0] + (AVAIL - BASE) + 4 + 2 * i, &i, sizeof i);
         for (uint16_t j = 0; j < RING; j++)
-            describe(memory[0] + (table - BASE), j, DATA + j, 1, j + 1 < RING, j + 1);
+            describe(memory[0] + (table - BASE), j, DATA + j, len, j + 1 < RING, j + 1);
     }
     idx[0] = 0;
 }
@@ -238,14 +245,14 @@ static void begin_tables(uint8_t window, uint32_t queue)
 static void begin_texts(const struct hostile *it)
 {
     (void)it;
-    begin_tables(KALYUBOS_CONSOLE, 1);
+    begin_tables(KALYUBOS_CONSOLE, 1, 1);
 }
 
 /* To its disk: requests of no known type, of a header, 254 bytes and a status, which ask the host for nothing. */
 static void begin_others(const struct hostile *it)
 {
     (void)it;
-    begin_tables(KALYUBOS_BLOCK, 0);
+    begin_tables(KALYUBOS_BLOCK, 0, 1);
     memory[0][HEADER - BASE] = 99;
     for (uint16_t i = 0; i < RING; i++) {
         uint8_t *table = memory[0] + (TABLES - BASE) + (uint64_t)i * RING * 16;
@@ -277,25 +284,48 @@ static uint32_t call_other(const struct hostile *it, uint32_t answer)
     return call_window(KALYUBOS_BLOCK, 0, answer);
 }
 
-/* Takes what the hostile guest's console put out, between the rounds. */
-static void take_text(void)
+/* To a further device: 256 bytes a chain to a console, and nothing to a card, which drops a chain without a frame. */
+static void begin_further(const struct hostile *it)
+{
+    begin_tables(it->window, 1, it->window == CONSOLE);
+}
+
+static uint32_t call_further(const struct hostile *it, uint32_t answer)
+{
+    return call_window(it->window, 1, answer);
+}
+
+/* Takes what the hostile guest's consoles put out, between the rounds. */
+static void take_text(const struct hostile *it)
 {
     static uint8_t text[TEXT];
     size_t taken;
     must(kalyubos_take_output(&board, 0, text, sizeof text, &taken));
+    if (it->window == CONSOLE)
+        must(kalyubos_take_frame(&board, 0, CONSOLE, text, sizeof text, &taken));
+}
+
+/* All that the hostile guest put on offer was served. */
+static void all_served(const struct hostile *it)
+{
+    struct kalyubos_counters counters;
+    uint16_t used;
+    memcpy(&used, memory[0] + 0x3002, sizeof used);
+    must(kalyubos_counters(&board, 0, &counters));
+    if (used != CHAINS || counters.faults != 0 || (it->window == 0 && counters.chains != CHAINS))
+        must(KALYUBOS_IDLE);
 }
 
 static void run_hosted(const struct hostile *it, int run)
 {
     struct kalyubos_pending pending;
-    struct kalyubos_counters counters;
     make(true, it->depth, it->chains, 0);
     it->begin(it);
     for (uint8_t i = 1; i < GUESTS; i++)
         bring_up(i, LEN, 1);
     uint32_t answer = KALYUBOS_DONE;
     for (calls = 0; calls < it->calls; calls++) {
-        take_text();
+        take_text(it);
         double start = now();
         answer = it->call(it, answer);
         keep_best(&call_took[calls], now() - start, run);
@@ -308,10 +338,8 @@ static void run_hosted(const struct hostile *it, int run)
             keep_best(&wait_took[calls][guest], now() - start, run);
         }
     }
-    must(answer); /* the last service is at its end, */
-    must(kalyubos_counters(&board, 0, &counters));
-    if (counters.chains != CHAINS || counters.faults != 0) /* and all was served */
-        must(KALYUBOS_IDLE);
+    must(answer); /* the last service is at its end */
+    all_served(it);
     if (run + 1 < RUNS)
         must(kalyubos_destroy(&board));
 }
@@ -350,18 +378,22 @@ int main(void)
     time_of("256 chains of 4 KiB, no budget", 0, 0, LEN);
     time_of("256 chains of 4 KiB, 1 chain a call", 1, 0, LEN);
     time_of("256 chains of 4 KiB, 64 KiB a call", 0, 0x10000, LEN);
-    time_hosted("256 chains of 8 MiB, hosted", (struct hostile){ begin_reads, call_disk, MOST_CALLS, 1, 0, LARGE, 1 });
+    time_hosted("256 chains of 8 MiB, hosted", (struct hostile){ begin_reads, call_disk, MOST_CALLS, 1, 0, LARGE, 1, 0 });
     time_hosted("256 chains of 8 MiB in 254 buffers, hosted",
-                (struct hostile){ begin_reads, call_disk, MOST_CALLS, 1, 0, LARGE, 254 });
+                (struct hostile){ begin_reads, call_disk, MOST_CALLS, 1, 0, LARGE, 254, 0 });
     time_hosted("256 chains of 8 MiB, 64 in flight",
-                (struct hostile){ begin_reads, call_disk, MOST_CALLS, KALYUBOS_TAGS, 0, LARGE, 1 });
+                (struct hostile){ begin_reads, call_disk, MOST_CALLS, KALYUBOS_TAGS, 0, LARGE, 1, 0 });
     time_hosted("256 chains of 8 MiB in 254 buffers, 64 in flight",
-                (struct hostile){ begin_reads, call_disk, MOST_CALLS, KALYUBOS_TAGS, 0, LARGE, 254 });
+                (struct hostile){ begin_reads, call_disk, MOST_CALLS, KALYUBOS_TAGS, 0, LARGE, 254, 0 });
     time_hosted("256 tables of 256 bytes to a console, no budget",
-                (struct hostile){ begin_texts, call_console, CHAINS / RING, 1, 0, 0, 0 });
+                (struct hostile){ begin_texts, call_console, CHAINS / RING, 1, 0, 0, 0, 0 });
     time_hosted("256 tables of 256 bytes to a console, 1 chain",
-                (struct hostile){ begin_texts, call_console, CHAINS, 1, 1, 0, 0 });
+                (struct hostile){ begin_texts, call_console, CHAINS, 1, 1, 0, 0, 0 });
     time_hosted("256 tables of 256 buffers to a disk, 1 chain",
-                (struct hostile){ begin_others, call_other, CHAINS / RING, 1, 1, 0, 0 });
+                (struct hostile){ begin_others, call_other, CHAINS / RING, 1, 1, 0, 0, 0 });
+    time_hosted("256 tables of 256 bytes to a further console",
+                (struct hostile){ begin_further, call_further, CHAINS / RING, 1, 1, 0, 0, CONSOLE });
+    time_hosted("256 tables of 256 buffers to a card",
+                (struct hostile){ begin_further, call_further, CHAINS / RING, 1, 1, 0, 0, CARD });
     return 0;
 }

@@ -130,8 +130,8 @@ pub fn a_write_in_place_is_an_event<A: Allocator>()
         (Response.Answered Reply.Done) (with_slot_bytes slot addr old bytes) }
 {}
 
-/// What is in flight of a slot stays in flight, whatever is called, for its guest or for others, and whatever else is
-/// completed: only the completion of its tag ends it, and a drop of its slot.
+/// What is in flight of a slot's own disk stays in flight, whatever is called, for its guest or for others, and whatever
+/// else is completed: only the completion of its tag ends it, and a drop of its slot.
 pub fn a_flight_outlasts_own_events<A: Allocator>()
     ensures { (old new : SessionState) (call : Call A) (response : Response A) (slot tag : ℕ) (here : InFlight) →
         IfEvent call (λ event. event.slot ≡ slot → LeavesTag tag event.what) → IsCalled old call response new →
