@@ -1,42 +1,19 @@
 -- The field of a network card: its address, a colon, and its MTU.
-use Rattle.std.proofs.Common.{◌≡◌, ℕ, ◌<◌, List, ◌∷◌, ◌++◌, All, length, get_or, take, drop, sym, ap, subst, ◌∙◌, arith}
+use Rattle.std.proofs.Common.{◌≡◌, ℕ, ◌<◌, List, ◌∷◌, ◌++◌, length, get_or, take, drop, sym, ap, ◌∙◌, arith}
 use Rattle.std.specs.Prelude.{codes}
 use Rattle.std.proofs.lemmas.List.{drop_at, drop_more, get_or-drop, length-append, take-append-drop, take_at}
-use Rattle.hex.specs.Hex.{encode_lower, lower_digits}
+use Rattle.hex.specs.Hex.{lower_digits}
 use Rattle.hex.proofs.HexLemmas.{length-encode_with}
 use Rattle.device_list.specs.declared.spec.DeviceSpec.TheVariants.{Network}
-use Rattle.hexadecimal.specs.Fields.{IsDigit, IsNum}
+use Rattle.hexadecimal.specs.Fields.{IsNum}
 use Rattle.hexadecimal.specs.Spelling.{bytes, num}
-use Rattle.hexadecimal.proofs.ByteFields.{AreBytes, bytes_read, bytes_some, digits_encoded, is_bytes}
-use Rattle.trace.specs.Words.{IsAddressField, IsCardField, Kind, Says}
-
--- ---- its address
+use Rattle.hexadecimal.proofs.ByteFields.{bytes_some}
+use Rattle.trace.specs.Words.{IsAddressField, IsCardField, IsKindField}
 
 -- six bytes are spelled by twelve digits
 pub address_long : (mac : List ℕ) → length mac ≡ 6 → length (bytes mac) ≡ 12
 address_long mac six =
     omega (arith, six, ap length (bytes_some mac (omega (arith, six))), length-encode_with lower_digits mac)
-
-module _ (field mac : List ℕ) (h : IsAddressField field mac) where
-  address_encoded : field ≡ encode_lower mac
-  address_encoded = let six = h.six in h.bytes_are.spelled ∙ bytes_some mac (omega (arith, six))
-
-  pub address_digits : All IsDigit field
-  address_digits = subst (All IsDigit) (sym address_encoded)
-      (digits_encoded mac (is_bytes mac h.bytes_are.fits))
-
-  pub address_len : length field ≡ 12
-  address_len = let six = h.six in
-      omega (arith, six, ap length address_encoded, length-encode_with lower_digits mac)
-
--- what was read of twelve digits
-pub address_read : (field mac : List ℕ) → length field ≡ 12 → encode_lower mac ≡ field → AreBytes mac
-    → IsAddressField field mac
-address_read field mac len spelled fits =
-    record {
-      bytes_are = bytes_read field mac (omega (arith, len)) spelled fits;
-      six = omega (arith, len, ap length spelled, length-encode_with lower_digits mac);
-    }
 
 -- ---- its parts
 
@@ -59,7 +36,7 @@ module _ (field mac : List ℕ) (mtu : ℕ) (h : IsCardField field mac mtu) wher
       fits = h.fits.each;
       spelled = ap (take 12) h.spelled ∙ take_at (bytes mac) (58 ∷ num mtu) 12 long;
     };
-    six = h.fits.six;
+    as_many = h.fits.six;
   }
 
   pub card_mtu : IsNum 16 (drop 13 field) mtu
@@ -72,17 +49,18 @@ module _ (field mac : List ℕ) (mtu : ℕ) (h : IsCardField field mac mtu) wher
 pub card_made : (field mac : List ℕ) (mtu : ℕ) → 12 < length field → get_or field 12 0 ≡ 58
     → IsAddressField (take 12 field) mac → IsNum 16 (drop 13 field) mtu → IsCardField field mac mtu
 card_made field mac mtu long colon address number = record {
-  fits = record { each = address.bytes_are.fits; six = address.six; wide = number.fits };
+  fits = record { each = address.bytes_are.fits; six = address.as_many; wide = number.fits };
   spelled = sym (take-append-drop 12 field)
       ∙ ap (λ (xs : List ℕ). xs ++ drop 12 field) address.bytes_are.spelled
       ∙ ap (λ (xs : List ℕ). bytes mac ++ xs) (drop_more field 12 0 long
       ∙ ap (λ (c : ℕ). c ∷ drop 13 field) colon ∙ ap (λ (xs : List ℕ). 58 ∷ xs) number.spelled);
 }
 
--- behind its word it says a kind of device
-pub is_card : (field rest mac : List ℕ) (mtu : ℕ) → field ≡ codes "network:" ++ rest
-    → IsCardField rest mac mtu → Says Kind field
-is_card field rest mac mtu is card = (
-  Network mac mtu,
-  record { fits = card.fits; spelled = is ∙ ap (λ (xs : List ℕ). codes "network:" ++ xs) card.spelled },
-)
+-- behind its word it is a kind of device
+module _ (field rest mac : List ℕ) (mtu : ℕ) (is : field ≡ codes "network:" ++ rest) where
+  pub is_card : IsCardField rest mac mtu → IsKindField field (Network mac mtu)
+  is_card card =
+      record { fits = card.fits; spelled = is ∙ ap (λ (xs : List ℕ). codes "network:" ++ xs) card.spelled }
+
+  pub card_behind : IsKindField field (Network mac mtu) → IsCardField rest mac mtu
+  card_behind kind = record { fits = kind.fits; spelled = ap (drop 8) (sym is ∙ kind.spelled) }

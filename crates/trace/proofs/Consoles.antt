@@ -1,10 +1,10 @@
 -- The field of a console: its columns, a colon, and its rows.
-use Rattle.std.proofs.Common.{◌≡◌, ℕ, List, ◌∷◌, ◌++◌, Option, None, Some, ap, ◌∙◌}
+use Rattle.std.proofs.Common.{◌≡◌, ℕ, List, ◌∷◌, ◌++◌, Option, None, Some, drop, sym, ap, ◌∙◌}
 use Rattle.std.specs.Prelude.{codes}
 use Rattle.device_list.specs.declared.spec.DeviceSpec.TheVariants.{Console}
 use Rattle.hexadecimal.specs.Fields.{IsNum, SpellsNumber}
 use Rattle.trace.specs.Cuts.{parts, parts_left}
-use Rattle.trace.specs.Words.{IsConsoleField, Kind, Says}
+use Rattle.trace.specs.Words.{IsConsoleField, IsKindField}
 use Rattle.trace.proofs.Pairs.{bad_second, colon, no_first, no_second, pair_read}
 
 module _ (field cols : List ℕ) (rest : Option (List ℕ)) (cut : parts 58 field ≡ cols ∷ parts_left 58 rest) where
@@ -26,10 +26,11 @@ module _ (field cols : List ℕ) (rest : Option (List ℕ)) (cut : parts 58 fiel
     spelled = pair_read 58 16 colon field cols rest cut c r rows some first second;
   }
 
--- behind its word it says a kind of device
-pub is_console : (field rest : List ℕ) (c r : ℕ) → field ≡ codes "console:" ++ rest → IsConsoleField rest c r
-    → Says Kind field
-is_console field rest c r is size = (
-  Console c r,
-  record { fits = size.fits; spelled = is ∙ ap (λ (xs : List ℕ). codes "console:" ++ xs) size.spelled },
-)
+-- behind its word it is a kind of device
+module _ (field rest : List ℕ) (c r : ℕ) (is : field ≡ codes "console:" ++ rest) where
+  pub is_console : IsConsoleField rest c r → IsKindField field (Console c r)
+  is_console size =
+      record { fits = size.fits; spelled = is ∙ ap (λ (xs : List ℕ). codes "console:" ++ xs) size.spelled }
+
+  pub console_behind : IsKindField field (Console c r) → IsConsoleField rest c r
+  console_behind kind = record { fits = kind.fits; spelled = ap (drop 8) (sym is ∙ kind.spelled) }

@@ -203,7 +203,7 @@ a_kind (spec.Console cols rows) fits = (
 an_identity : (bs : List ℕ) → AreBytes bs → length bs ≡ 20 → Stands ByIdentity (bytes bs)
 an_identity bs each twenty =
     let is : IsBytesField (bytes bs) bs = record { fits = each; spelled = refl } in
-    ((bs, record { bytes_are = is; twenty = twenty }), bytes_digits bs each)
+    ((bs, record { bytes_are = is; as_many = twenty }), bytes_digits bs each)
 
 a_link : (up : Bool) → Stands Link (link_state up)
 a_link true = ((true, refl), above_tested 32 (link_state true) refl)

@@ -6,7 +6,7 @@ pub mod RegionFields
 pub mod Signs
 pub mod Fronts
 pub mod Widths
-pub mod Identities
+pub mod BytesOf
 pub mod Cards
 pub mod Consoles
 pub mod Entries

@@ -25,25 +25,24 @@ two_digits n d e rest le lt p q =
     let small : n / 16 < 16 = omega arith in
     rw (p, q, num_split n le, num_digit (n / 16) small) refl
 
--- a line that begins with both digits of a slot, of which the first may be left out
-pub numbered_one : (n : ℕ) (xs : List ℕ) → n < 16 → take 2 xs ≡ digit (n / 16) ∷ digit (n % 16) ∷ []
-    → take (length xs - 1) (drop 1 xs) ≡ num n ++ drop 2 xs
-numbered_one n [] lt is = absurd cc
-numbered_one n (x ∷ []) lt is = absurd cc
-numbered_one n (x ∷ y ∷ xs) lt is =
-    let last : y ≡ digit (n % 16) = cc in
+-- a line whose first two bytes are put
+abbrev numbered : ℕ → ℕ → List ℕ → List ℕ
+numbered x y xs = slice_set (slice_set xs 0 x) 1 y
+
+pub numbered_one : (n x y : ℕ) (xs : List ℕ) → n < 16 → 2 ≤ length xs → y ≡ digit (n % 16)
+    → take (length (numbered x y xs) - 1) (drop 1 (numbered x y xs)) ≡ num n ++ drop 2 xs
+numbered_one n x y [] lt some last = absurd (omega arith)
+numbered_one n x y (v ∷ []) lt some last = absurd (omega arith)
+numbered_one n x y (v ∷ w ∷ xs) lt some last =
     let small : n % 16 ≡ n = omega arith in
     take_all (length (x ∷ y ∷ xs) - 1) (y ∷ xs) (omega arith)
     ∙ one_digit n y xs lt (sym (last ∙ ap digit small))
 
-pub numbered_two : (n : ℕ) (xs : List ℕ) → 16 ≤ n → n < 256 → take 2 xs ≡ digit (n / 16) ∷ digit (n % 16) ∷ []
-    → xs ≡ num n ++ drop 2 xs
-numbered_two n [] le lt is = absurd cc
-numbered_two n (x ∷ []) le lt is = absurd cc
-numbered_two n (x ∷ y ∷ xs) le lt is =
-    let first : x ≡ digit (n / 16) = cc in
-    let last : y ≡ digit (n % 16) = cc in
-    two_digits n x y xs le lt first last
+pub numbered_two : (n x y : ℕ) (xs : List ℕ) → 16 ≤ n → n < 256 → 2 ≤ length xs → x ≡ digit (n / 16)
+    → y ≡ digit (n % 16) → numbered x y xs ≡ num n ++ drop 2 xs
+numbered_two n x y [] le lt some first last = absurd (omega arith)
+numbered_two n x y (v ∷ []) le lt some first last = absurd (omega arith)
+numbered_two n x y (v ∷ w ∷ xs) le lt some first last = two_digits n x y xs le lt first last
 
 -- the line of a record without output, by its bytes
 pub quiet_is : (slot : ℕ) (reply : List ℕ) (words : ℕ × ℕ) → num slot

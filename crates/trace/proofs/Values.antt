@@ -1,7 +1,6 @@
 -- The values of a line's fields, read one after another.
 use Rattle.std.proofs.Common.{◌≡◌, ◌≢◌, ℕ, ◌+◌, ◌^◌, ◌<◌, ◌≤◌, Bool, true, false, List, [], ◌∷◌, ◌++◌, length, get_or, map, take, drop, slice_index_or, refl, sym, ap, subst, ◌∙◌, arith}
 use Rattle.std.proofs.lemmas.List.{append-nil, append_assoc, drop_all, drop_more, length-map, map-append, map_more, take_all}
-use Rattle.board.specs.declared.event.SlotWindow.{SlotWindow}
 use Rattle.trace.specs.declared.format.Format.{Format}
 use Rattle.trace.specs.declared.format.Format.TheVariants.{Plain, Extended}
 use Rattle.trace.specs.declared.format.Version.TheVariants.{One, Two}
@@ -144,84 +143,35 @@ same_right format other word fields event h = h
 
 -- ---- a write
 
--- its values, of which the last is read by the width before it
-pub record IsWrite (vs : List FieldValue) : Type 0 where
+-- its values: the second has this shape, and the last is read by the width before it
+pub record IsWrite (shape : Shape) (vs : List FieldValue) : Type 0 where
   pub slot : ℕ
-  pub kind : SlotWindow
+  pub second : FieldValue
   pub offset : ℕ
   pub width : ℕ
   pub val : ℕ
-  pub are : vs ≡ value.Number slot ∷ value.Window kind ∷ value.Offset offset ∷ value.Width width
+  pub are : vs ≡ value.Number slot ∷ second ∷ value.Offset offset ∷ value.Width width
       ∷ value.Value width val ∷ []
   pub small : slot < 2 ^ 8
+  pub is_second : IsOf shape second
   pub fine : IsWriteAccess offset width val
 
-pub written : (vs : List FieldValue) → AreOf (shapes Extended Write (map value_text vs)) vs → IsWrite vs
-written vs h =
-    let t0 = h.2.1.1 in
-    let t1 = t0.2.1.1 in
-    let t2 = t1.2.1.1 in
-    let t3 = t2.2.1.1 in
-    let t4 = t3.2.1.1 in
-    let number = h.2.1.0 in
-    let window = t0.2.1.0 in
-    let offset = t1.2.1.0 in
-    let width = t2.2.1.0 in
-    let up_to_width : vs ≡ value.Number number.0 ∷ value.Window window.0 ∷ value.Offset offset.0
-    ∷ value.Width width.0 ∷ t2.1 =
-    h.2.0 ∙ ap (λ (xs : List FieldValue). h.0 ∷ xs) (t0.2.0
-    ∙ ap (λ (xs : List FieldValue). t0.0 ∷ xs) (t1.2.0 ∙ ap (λ (xs : List FieldValue). t1.0 ∷ xs) t2.2.0))
-    ∙ rw (number.1.0, window.1, offset.1.0, width.1.0) refl
-    in
-    let by : slice_index_or (map value_text vs) 3 [] ≡ value_text (value.Width width.0) =
-    ap (λ (xs : List FieldValue). slice_index_or (map value_text xs) 3 []) up_to_width in
-    let val = t3.2.1.0 width.0 (record { fits = width.1.1; spelled = by ∙ num_width width.0 width.1.1 }) in
-    let last : t2.1 ≡ value.Value width.0 val.0 ∷ [] = t3.2.0 ∙ rw (val.1.0, t4) refl in
-    record {
-      slot = number.0;
-      kind = window.0;
-      offset = offset.0;
-      width = width.0;
-      val = val.0;
-      are = up_to_width ∙ ap (λ (xs : List FieldValue). value.Number number.0 ∷ value.Window window.0
-          ∷ value.Offset offset.0 ∷ value.Width width.0 ∷ xs) last;
-      small = number.1.1;
-      fine = record {
-        access = record { three_digits = offset.1.1; wide = width.1.1 };
-        within = subst (λ (most : ℕ). val.0 < most) (digits_bound width.0 width.1.1) val.1.1;
-      };
-    }
-
--- the values of a write of a further device's window, of which the last is read by the width before it
-pub record IsDeviceWrite (vs : List FieldValue) : Type 0 where
-  pub slot : ℕ
-  pub number : ℕ
-  pub offset : ℕ
-  pub width : ℕ
-  pub val : ℕ
-  pub are : vs ≡ value.Number slot ∷ value.Number number ∷ value.Offset offset ∷ value.Width width
-      ∷ value.Value width val ∷ []
-  pub small : slot < 2 ^ 8
-  pub few : number < 2 ^ 8
-  pub fine : IsWriteAccess offset width val
-
-pub device_written : (vs : List FieldValue) → AreOf (shapes Extended DeviceWrite (map value_text vs)) vs
-    → IsDeviceWrite vs
-device_written vs h =
+pub written : (shape : Shape) (vs : List FieldValue)
+    → AreOf (Num 8 ∷ shape ∷ Offset ∷ Width ∷ Value (width_among (map value_text vs)) ∷ []) vs
+    → IsWrite shape vs
+written shape vs h =
     let t0 = h.2.1.1 in
     let t1 = t0.2.1.1 in
     let t2 = t1.2.1.1 in
     let t3 = t2.2.1.1 in
     let t4 = t3.2.1.1 in
     let slot = h.2.1.0 in
-    let number = t0.2.1.0 in
     let offset = t1.2.1.0 in
     let width = t2.2.1.0 in
-    let up_to_width : vs ≡ value.Number slot.0 ∷ value.Number number.0 ∷ value.Offset offset.0
-    ∷ value.Width width.0 ∷ t2.1 =
+    let up_to_width : vs ≡ value.Number slot.0 ∷ t0.0 ∷ value.Offset offset.0 ∷ value.Width width.0 ∷ t2.1 =
     h.2.0 ∙ ap (λ (xs : List FieldValue). h.0 ∷ xs) (t0.2.0
     ∙ ap (λ (xs : List FieldValue). t0.0 ∷ xs) (t1.2.0 ∙ ap (λ (xs : List FieldValue). t1.0 ∷ xs) t2.2.0))
-    ∙ rw (slot.1.0, number.1.0, offset.1.0, width.1.0) refl
+    ∙ rw (slot.1.0, offset.1.0, width.1.0) refl
     in
     let by : slice_index_or (map value_text vs) 3 [] ≡ value_text (value.Width width.0) =
     ap (λ (xs : List FieldValue). slice_index_or (map value_text xs) 3 []) up_to_width in
@@ -229,14 +179,14 @@ device_written vs h =
     let last : t2.1 ≡ value.Value width.0 val.0 ∷ [] = t3.2.0 ∙ rw (val.1.0, t4) refl in
     record {
       slot = slot.0;
-      number = number.0;
+      second = t0.0;
       offset = offset.0;
       width = width.0;
       val = val.0;
-      are = up_to_width ∙ ap (λ (xs : List FieldValue). value.Number slot.0 ∷ value.Number number.0
+      are = up_to_width ∙ ap (λ (xs : List FieldValue). value.Number slot.0 ∷ t0.0
           ∷ value.Offset offset.0 ∷ value.Width width.0 ∷ xs) last;
       small = slot.1.1;
-      few = number.1.1;
+      is_second = t0.2.1.0;
       fine = record {
         access = record { three_digits = offset.1.1; wide = width.1.1 };
         within = subst (λ (most : ℕ). val.0 < most) (digits_bound width.0 width.1.1) val.1.1;

@@ -26,10 +26,14 @@ pub record IsWidthField (field : List ℕ) (width : ℕ) : Type 0 where
   pub fits : IsWidth width
   pub spelled : field ≡ width_digit width
 
--- the field is an identity (5.2.6): exactly 20 bytes
-pub record IsIdentityField (field bs : List ℕ) : Type 0 where
+-- the field is exactly so many bytes
+pub record IsBytesOf (count : ℕ) (field bs : List ℕ) : Type 0 where
   pub bytes_are : IsBytesField field bs
-  pub twenty : length bs ≡ 20
+  pub as_many : length bs ≡ count
+
+-- the field is an identity (5.2.6): exactly 20 bytes
+abbrev pub IsIdentityField : List ℕ → List ℕ → Type 0
+IsIdentityField = IsBytesOf 20
 
 -- a region whose base and length have 64 bits
 pub record RegionInRange (region : RegionSpec) : Type 0 where
@@ -83,9 +87,8 @@ SpecInRange (Block sectors read_only identity depth) = FurtherDiskInRange sector
 SpecInRange (Console cols rows) = SizeInRange cols rows
 
 -- the field is the address of a network card (5.1.4): exactly six bytes
-pub record IsAddressField (field mac : List ℕ) : Type 0 where
-  pub bytes_are : IsBytesField field mac
-  pub six : length mac ≡ 6
+abbrev pub IsAddressField : List ℕ → List ℕ → Type 0
+IsAddressField = IsBytesOf 6
 
 -- the field is a network card
 pub record IsCardField (field mac : List ℕ) (mtu : ℕ) : Type 0 where

@@ -1,7 +1,7 @@
 //! Reading a whole trace.
 //!
 //! `cut` takes lines and fields off. `entry` and `fields` read one line, whose `values` are read over the table of its
-//! fields, and `fast_path` those that come most often. `choice`, `card`, `console`, `offset`, `regions` and `identity` read one field, and `number` the front of a line. `parsed` is the
+//! fields, and `fast_path` those that come most often. `choice`, `card`, `console`, `offset`, `regions` and `identity` read one field, of which `bytes_of` reads so many bytes, and `number` the front of a line. `parsed` is the
 //! event that a line says, with its bytes still spelled. `validating` goes over a whole text and keeps what stands before its
 //! events, `events` takes these one by one, and `at_fault` finds the fault of a line, and its field.
 
@@ -13,6 +13,7 @@ ghost use Rattle.trace.specs.Refusals.{RefusesHead, IsFirst, IsHead, IsSecond, R
 ghost use Rattle.trace.specs.ParsedEvent.{IsFineParsed};
 
 mod at_fault;
+mod bytes_of;
 mod card;
 mod choice;
 mod console;

@@ -1,6 +1,6 @@
 //! The text of records.
 
-ghost use Rattle.std.specs.Prelude.{◌≡◌, ◌≤◌, ◌/◌, ◌%◌, ◌∷◌, [], ◌++◌, All, IfOk, codes, drop, length, take};
+ghost use Rattle.std.specs.Prelude.{◌≡◌, ◌≤◌, ◌∷◌, [], ◌++◌, All, IfOk, codes, drop, length};
 ghost use Rattle.board.specs.Line.{HasInterruptWords};
 ghost use Rattle.hex.specs.Hex.{encode_lower};
 ghost use Rattle.trace.specs.Records.{entry_of, quiet_line, read_line, record_fields, record_line, records_text, reply_field};
@@ -123,12 +123,10 @@ fn put_value<W: Write, B: Allocator>(
     ensures { Sends (W.contents out.old) (W.contents out.new) (waiting buffer.old) (ended (quiet_line slot (codes "v:" ++ fixed 8 value) words)) (waiting buffer.new) }
 {
     let mut line = *b"00 v:00000000 - 0 0\n";
-    line[0] = digit_of(slot / 16);
-    line[1] = digit_of(slot % 16);
     line[5..13].copy_from_slice(&eight_digits(value));
     line[16] = digit_of(words.0);
     line[18] = digit_of(words.1);
-    put_numbered(buffer, out, slot, &line);
+    put_numbered(buffer, out, slot, &mut line);
 }
 
 // The same of `done`.
@@ -138,20 +136,25 @@ fn put_done<W: Write, B: Allocator>(buffer: &mut Buffer<B>, out: &mut W, slot: u
     ensures { Sends (W.contents out.old) (W.contents out.new) (waiting buffer.old) (ended (quiet_line slot (codes "done") words)) (waiting buffer.new) }
 {
     let mut line = *b"00 done - 0 0\n";
-    line[0] = digit_of(slot / 16);
-    line[1] = digit_of(slot % 16);
     line[10] = digit_of(words.0);
     line[12] = digit_of(words.1);
-    put_numbered(buffer, out, slot, &line);
+    put_numbered(buffer, out, slot, &mut line);
 }
 
-// Puts a line that begins with both digits of its slot, but for the first where that is 0. It is read into its caller, who
-// knows how long the line is.
+// Puts a line, whose first two bytes become the digits of its slot: the second alone where the first is 0. It is read into its
+// caller, who knows how long the line is.
 #[inline(always)]
-fn put_numbered<W: Write, B: Allocator>(buffer: &mut Buffer<B>, out: &mut W, slot: u8, line: &[u8])
-    requires { take 2 line.now ≡ digit (slot / 16) ∷ digit (slot % 16) ∷ [] }
-    ensures { Sends (W.contents out.old) (W.contents out.new) (waiting buffer.old) (num slot ++ drop 2 line.now) (waiting buffer.new) }
+fn put_numbered<W: Write, B: Allocator>(
+    buffer: &mut Buffer<B>,
+    out: &mut W,
+    slot: u8,
+    line: &mut [u8],
+)
+    requires { 2 ≤ length line.old }
+    ensures { Sends (W.contents out.old) (W.contents out.new) (waiting buffer.old) (num slot ++ drop 2 line.old) (waiting buffer.new) }
 {
+    line[0] = digit_of(slot / 16);
+    line[1] = digit_of(slot % 16);
     if slot < 16 {
         buffer.put(out, &line[1..]);
     } else {
@@ -176,13 +179,11 @@ fn put_took<W: Write, B: Allocator>(
         return;
     }
     let mut line = *b"00 took:00 - 0 0\n";
-    line[0] = digit_of(slot / 16);
-    line[1] = digit_of(slot % 16);
     line[8] = digit_of((count / 16) as u8);
     line[9] = digit_of((count % 16) as u8);
     line[13] = digit_of(words.0);
     line[15] = digit_of(words.1);
-    put_numbered(buffer, out, slot, &line);
+    put_numbered(buffer, out, slot, &mut line);
 }
 
 // The same of any number.

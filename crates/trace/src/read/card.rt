@@ -4,8 +4,10 @@ ghost use Rattle.std.specs.Prelude.{ℕ, List, IfNone, IfSome, OnSome};
 ghost use Rattle.device_list.specs.declared.spec.DeviceSpec.{DeviceSpec};
 ghost use Rattle.trace.specs.Words.{IsAddressField, IsCardField, IsKindField, Kind, Says};
 
+use crate::read::bytes_of::fill;
+use crate::read::cut::behind;
 use board::DeviceSpec;
-use hexadecimal::{are_digits, number_u16, read_pairs};
+use hexadecimal::number_u16;
 
 /// How many bytes the address of a card has (5.1.4), and how many digits spell them.
 const ADDRESS_LEN: usize = 6;
@@ -18,9 +20,7 @@ pub(crate) fn card_of(field: &[u8]) -> Option<DeviceSpec>
     ensures parsed { OnSome result (Says Kind field.now) }
     ensures none { IfNone result ((mac : List ℕ) (mtu : ℕ) → ¬ IsKindField field.now (DeviceSpec.Network mac mtu)) }
 {
-    let [b'n', b'e', b't', b'w', b'o', b'r', b'k', b':', rest @ ..] = field else {
-        return None;
-    };
+    let rest = behind(field, b"network:")?;
     let (mac, mtu) = address_and_mtu(rest)?;
     Some(DeviceSpec::Network { mac, mtu })
 }
@@ -43,10 +43,7 @@ fn address_of(field: &[u8]) -> Option<[u8; ADDRESS_LEN]>
     ensures some { IfSome result (λ mac. IsAddressField field.now mac) }
     ensures none { IfNone result ((mac : List ℕ) → ¬ IsAddressField field.now mac) }
 {
-    if field.len() != 2 * ADDRESS_LEN || !are_digits(field) {
-        return None;
-    }
     let mut mac = [0; ADDRESS_LEN];
-    read_pairs(field, &mut mac);
+    fill(&mut mac, field)?;
     Some(mac)
 }

@@ -8,6 +8,7 @@ ghost use Rattle.trace.specs.Words.{IsDiskField, IsKindField, is_disk_kind, IsWi
 
 use crate::read::card::card_of;
 use crate::read::console::console_of;
+use crate::read::cut::behind;
 use board::{Backing, DeviceSpec, SlotWindow, Verdict};
 use hexadecimal::number_u8;
 
@@ -56,9 +57,7 @@ fn host_of(field: &[u8]) -> Option<Backing>
     ensures parsed { OnSome result (Says Disk field.now) }
     ensures none { IfNone result ((depth : ℕ) → ¬ IsDiskField field.now (Backing.Host depth)) }
 {
-    let [b'h', b'o', b's', b't', b':', digits @ ..] = field else {
-        return None;
-    };
+    let digits = behind(field, b"host:")?;
     let depth = number_u8(digits)?;
     Some(Backing::Host { depth })
 }

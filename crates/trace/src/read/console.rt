@@ -4,7 +4,7 @@ ghost use Rattle.std.specs.Prelude.{ℕ, IfNone, IfSome, OnSome};
 ghost use Rattle.device_list.specs.declared.spec.DeviceSpec.{DeviceSpec};
 ghost use Rattle.trace.specs.Words.{IsConsoleField, IsKindField, Kind, Says};
 
-use crate::read::cut::cut;
+use crate::read::cut::{behind, cut};
 use board::DeviceSpec;
 use hexadecimal::number_u16;
 
@@ -14,9 +14,7 @@ pub(crate) fn console_of(field: &[u8]) -> Option<DeviceSpec>
     ensures parsed { OnSome result (Says Kind field.now) }
     ensures none { IfNone result ((cols rows : ℕ) → ¬ IsKindField field.now (DeviceSpec.Console cols rows)) }
 {
-    let [b'c', b'o', b'n', b's', b'o', b'l', b'e', b':', rest @ ..] = field else {
-        return None;
-    };
+    let rest = behind(field, b"console:")?;
     let (cols, rows) = cols_and_rows(rest)?;
     Some(DeviceSpec::Console { cols, rows })
 }

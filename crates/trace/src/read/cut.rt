@@ -1,6 +1,6 @@
 //! Cutting a text into its lines, a line into its fields and a field at a sign, each at the front.
 
-ghost use Rattle.std.specs.Prelude.{◌≡◌, ◌++◌, ◌∷◌, [], IfSome, IfNone, OnSome, slice_index_or};
+ghost use Rattle.std.specs.Prelude.{◌≡◌, ◌≢◌, ◌++◌, ◌∷◌, [], ℕ, List, IfSome, IfNone, MatchOption, OnSome, slice_index_or};
 ghost use Rattle.std.specs.Option.{option_copied};
 ghost use Rattle.trace.specs.Cuts.{fields_of, fields_left, lines_of, parts, parts_left};
 ghost use Rattle.trace.specs.Faults.{line_at};
@@ -93,4 +93,11 @@ pub(crate) fn cut(bytes: &[u8], sign: u8) -> (&[u8], Option<&[u8]>)
         Some(i) => (&bytes[..i], Some(&bytes[i + 1..])),
         None => (bytes, None),
     }
+}
+
+/// What follows this word, where a field begins with it.
+pub(crate) fn behind<'a>(field: &'a [u8], word: &[u8]) -> Option<&'a [u8]>
+    ensures { MatchOption result ((rest : List ℕ) → field.now ≢ word.now ++ rest) (λ rest. field.now ≡ word.now ++ rest.now) }
+{
+    field.strip_prefix(word)
 }

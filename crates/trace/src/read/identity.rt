@@ -3,7 +3,7 @@
 ghost use Rattle.std.specs.Prelude.{IfNone, IfSome};
 ghost use Rattle.trace.specs.Words.{Identity, IsIdentityField, Says};
 
-use hexadecimal::{are_digits, read_pairs};
+use crate::read::bytes_of::fill;
 
 /// How many bytes an identity has (5.2.6).
 const IDENTITY_LEN: usize = 20;
@@ -13,10 +13,7 @@ pub fn identity_of(field: &[u8]) -> Option<[u8; IDENTITY_LEN]>
     ensures some { IfSome result (λ bs. IsIdentityField field.now bs) }
     ensures none { IfNone result (¬ Says Identity field.now) }
 {
-    if field.len() != 2 * IDENTITY_LEN || !are_digits(field) {
-        return None;
-    }
     let mut identity = [0; IDENTITY_LEN];
-    read_pairs(field, &mut identity);
+    fill(&mut identity, field)?;
     Some(identity)
 }

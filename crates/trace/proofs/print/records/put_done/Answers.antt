@@ -5,6 +5,6 @@ use Rattle.trace.proofs.print.records.put_done.Goals as goal
 
 pub returns : goal.returns
 returns g c =
-    sends_same _ _ _ _ _ _ (rw (c.digit_of-3.ensures, c.digit_of-4.ensures)
+    sends_same _ _ _ _ _ _ (rw (c.digit_of.ensures, c.digit_of-2.ensures)
     (quiet_is c.args.slot (codes "done") c.args.words))
     c.put_numbered.ensures

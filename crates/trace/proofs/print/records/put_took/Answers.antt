@@ -5,8 +5,8 @@ use Rattle.trace.proofs.print.records.put_took.Goals as goal
 
 pub returns : goal.returns
 returns g c =
-    sends_same _ _ _ _ _ _ (rw (c.digit_of-5.ensures, c.digit_of-6.ensures)
-    (took_two c.args.slot c.args.count c.digit_of-3.result c.digit_of-4.result c.args.words (omega arith)
+    sends_same _ _ _ _ _ _ (rw (c.digit_of-3.ensures, c.digit_of-4.ensures)
+    (took_two c.args.slot c.args.count c.digit_of.result c.digit_of-2.result c.args.words (omega arith)
     (omega arith)
-    c.digit_of-3.ensures c.digit_of-4.ensures))
+    c.digit_of.ensures c.digit_of-2.ensures))
     c.put_numbered.ensures

@@ -7,5 +7,5 @@ pub returns : goal.returns
 returns g c =
     sends_same _ _ _ _ _ _
     (value_line c.args.slot c.args.value _ _ c.args.words _ (c.copy_from_slice.ensures.after
-    ∙ c.eight_digits.ensures) c.digit_of-3.ensures c.digit_of-4.ensures)
+    ∙ c.eight_digits.ensures) c.digit_of.ensures c.digit_of-2.ensures)
     c.put_numbered.ensures
