@@ -128,6 +128,7 @@ impl<A: Allocator> RacingBlock<A> {
 
     /// Looks at its queue, where the window is live and the queue ready. After `Progress::More` the caller looks once more,
     /// since its driver may not notify.
+    #[inline(always)]
     pub fn serve<M: Shared>(
         &mut self,
         mem: &mut M,

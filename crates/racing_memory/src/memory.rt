@@ -58,7 +58,6 @@ impl<'r, 'w> RacingMemory<'r, 'w> {
     }
 
     // The place of the region that holds the `n` bytes from `addr` on.
-    #[inline(always)]
     fn place_inside(&self, addr: u64, n: u64) -> usize
         requires { Inside (newest self.now.regions self.now.past) addr n }
         ensures place { result < length self.now.regions }
@@ -129,21 +128,25 @@ impl<'r, 'w> Shared for RacingMemory<'r, 'w> {
     }
 
     #[tactic(auto, using(crate::proofs::Seeing::stores_noted))]
+    #[inline(always)]
     fn store_u8(&mut self, addr: u64, v: u8) {
         self.put(addr, 1, u64::from(v));
     }
 
     #[tactic(auto, using(crate::proofs::Seeing::stores_noted))]
+    #[inline(always)]
     fn store_u16(&mut self, addr: u64, v: u16) {
         self.put(addr, 2, u64::from(v));
     }
 
     #[tactic(auto, using(crate::proofs::Seeing::stores_noted))]
+    #[inline(always)]
     fn store_u32(&mut self, addr: u64, v: u32) {
         self.put(addr, 4, u64::from(v));
     }
 
     #[tactic(auto, using(crate::proofs::Seeing::stores_noted))]
+    #[inline(always)]
     fn store_u64(&mut self, addr: u64, v: u64) {
         self.put(addr, 8, v);
     }

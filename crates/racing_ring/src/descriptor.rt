@@ -29,6 +29,7 @@ struct SecondWord {
 
 /// The fields of the descriptor at `addr`: the word with the flags is read first, and then the address of its buffer.
 #[tactic(auto, using(shared_memory::proofs::Sightings::inside_loads, shared_memory::proofs::Sightings::loads_trans))]
+#[inline(always)]
 pub(crate) fn load_fields<M: Shared>(mem: &mut M, addr: u64) -> Fields
     requires { Inside (memory (M.sightings mem.old)) addr 16 }
     ensures fields { AreFields (M.races mem.old) (M.sightings mem.old) (M.sightings mem.new) addr result.addr result.len result.third result.last }

@@ -66,6 +66,7 @@ impl Known {
     }
 
     /// Forgets what was read.
+    #[inline(never)]
     pub(crate) fn clear(&mut self)
         ensures { self.new ≡ replicate 256 None }
     {

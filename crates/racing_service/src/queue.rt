@@ -135,6 +135,7 @@ impl RacingQueue for RacingSplitRing {
         RacingSplitRing::open(self, mem)
     }
 
+    #[inline(always)]
     fn take<M: Shared>(
         &mut self,
         mem: &mut M,
@@ -191,6 +192,7 @@ impl RacingQueue for RacingPackedRing {
         RacingPackedRing::open(self, mem)
     }
 
+    #[inline(always)]
     fn take<M: Shared>(
         &mut self,
         mem: &mut M,

@@ -87,6 +87,7 @@ impl RacingQueue for RacingRing {
         }
     }
 
+    #[inline(always)]
     fn take<M: Shared>(
         &mut self,
         mem: &mut M,
@@ -135,6 +136,7 @@ impl RacingQueue for RacingRing {
         }
     }
 
+    #[inline(always)]
     fn close<M: Shared>(&mut self, mem: &mut M) -> bool {
         match &mut self.layout {
             Layout::Split(ring) => RacingQueue::close(ring, mem),

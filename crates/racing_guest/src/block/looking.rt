@@ -23,6 +23,7 @@ use shared_memory::Shared;
 use std::alloc::Allocator;
 
 /// Looks at the queue, where the window is live and the queue ready.
+#[inline(always)]
 pub(super) fn look<M: Shared, A: Allocator>(
     window: &mut Window,
     disk: &mut RacingHostedDisk<Token, A>,
