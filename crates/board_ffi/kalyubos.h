@@ -40,9 +40,10 @@
  * kalyubos_guest_create): a call copies what it needs.
  *
  * Each call answers a number. After any but KALYUBOS_DONE its out parameters are unchanged, with these exceptions. A
- * struct kalyubos_pending is told after every answer where the slot exists, and `took` after KALYUBOS_MORE too. The
- * `len` of a frame is told after KALYUBOS_SHORT_BUFFER too, and kalyubos_judge tells what its answer is about. The
- * numbers never change; a later version only adds some.
+ * struct kalyubos_pending is told after every answer where the slot exists. What was taken of what is handed in
+ * (kalyubos_input, kalyubos_supply, kalyubos_receive) is told after KALYUBOS_MORE too, and so is a frame that is taken,
+ * whose `len` is told after KALYUBOS_SHORT_BUFFER too; kalyubos_judge tells what its answer is about. The numbers never
+ * change; a later version only adds some.
  *
  * A struct that the host fills begins with its `size`, its sizeof in the header that the host was built with. This
  * version takes its own size alone, and answers KALYUBOS_BAD_SIZE for any other before it looks at another field. A
@@ -152,7 +153,7 @@ struct kalyubos_pending {
 };
 
 /*
- * What the disk and the console of a slot did since its board was made, each number modulo 2^64. kalyubos_restore keeps
+ * What the devices of a slot did since its board was made, each number modulo 2^64. kalyubos_restore keeps
  * the numbers. They are counted beside the proof: tests compare them, and no promise speaks of them.
  */
 struct kalyubos_counters {
@@ -294,7 +295,7 @@ static inline struct kalyubos_config kalyubos_config(const struct kalyubos_slot 
  * A sector is read where it lies in the image, so `cache` is judged and changes nothing else.
  *
  * A call serves no more than `chains` chains, and begins no further chain once those before it had `bytes` bytes in
- * their buffers. So one call moves `bytes` and one chain at most. Without a limit nothing ever pauses; no service of a
+ * their buffers. So one call moves `bytes` and one chain at most. Without a limit nothing ever pauses. No service of a
  * disk that the host serves does.
  *
  * Choose each outlet for the longest chain that the guest's driver sends: one that is longer than `outlet` is never
@@ -351,8 +352,8 @@ uint32_t kalyubos_read(const struct kalyubos *board, uint8_t slot, uint8_t windo
  * flight of this disk. The CPU that made it waits with it; make the same write again once all is completed or dropped.
  * All else goes on meanwhile.
  *
- * A write of a further device's window never pauses: what it notifies is served to its end. It is BUSY in a pause of
- * the slot, and BAD_WINDOW where the slot has no such window. kalyubos_device_pending tells its line.
+ * BUSY in a pause of the slot, and BAD_WINDOW where the slot has no such window. Of a further device's window
+ * kalyubos_device_pending tells the line.
  */
 KALYUBOS_LOOK_AT_IT
 uint32_t kalyubos_write(struct kalyubos *board, uint8_t slot, uint8_t window, uint16_t offset, uint8_t width,
@@ -361,7 +362,7 @@ uint32_t kalyubos_write(struct kalyubos *board, uint8_t slot, uint8_t window, ui
 /*
  * Goes on with the service of a slot that is paused, within the budget, and answers as the call did that it serves:
  * DONE at its end, NO_ROOM, or MORE again. Where none is paused it answers DONE and changes nothing. `pending` is what
- * then waits.
+ * then waits. The line of a further device moves at the end of its service, as kalyubos_device_pending tells.
  *
  * From MORE until the end of the service the guest waits as in a long call. Every call for its slot but this one is
  * answered BUSY then and changes nothing, except kalyubos_interrupts, kalyubos_device_pending, kalyubos_disturbed,
@@ -521,16 +522,17 @@ struct kalyubos_device_pending {
 };
 
 /*
- * Tells what waits for a further device. Set its window's line by `interrupt` after each kalyubos_write to the window, and
- * after each of the other calls for it.
+ * Tells what waits for a further device. Set its window's line by `interrupt` after each kalyubos_write to the window,
+ * after each of the other calls for it, and where one was answered MORE after the last kalyubos_go_on.
  */
 uint32_t kalyubos_device_pending(const struct kalyubos *board, uint8_t slot, uint8_t window,
                                  struct kalyubos_device_pending *pending);
 
 /*
  * Supplies an entropy device with random bytes, or types to a console; `taken` is how many bytes it took, the first ones: it
- * keeps 4096 until its driver takes them.
+ * keeps 4096 until its driver takes them. After MORE too; kalyubos_go_on brings them to the driver.
  */
+KALYUBOS_LOOK_AT_IT
 uint32_t kalyubos_supply(struct kalyubos *board, uint8_t slot, uint8_t window, const uint8_t *bytes, size_t bytes_len,
                          size_t *taken);
 
@@ -538,7 +540,9 @@ uint32_t kalyubos_supply(struct kalyubos *board, uint8_t slot, uint8_t window, c
  * Hands a network card a frame, which begins with the addresses of Ethernet and has no check sequence. `taken` says
  * whether the card took it, whole. Where there is no room it takes nothing, until its driver has taken others: it keeps
  * 64 frames, of 65536 bytes together. BAD_WINDOW also of a frame without bytes, or of more than the card's MTU and 14.
+ * After MORE the card took it; kalyubos_go_on brings to the driver what waits.
  */
+KALYUBOS_LOOK_AT_IT
 uint32_t kalyubos_receive(struct kalyubos *board, uint8_t slot, uint8_t window, const uint8_t *frame, size_t frame_len,
                           bool *taken);
 
@@ -548,12 +552,14 @@ uint32_t kalyubos_receive(struct kalyubos *board, uint8_t slot, uint8_t window, 
  * stays. No frame has more than 65536 bytes, and none of a driver that keeps to the MTU more than that and 14.
  *
  * Take frames after each kalyubos_write to the window, until there is none. The card keeps as many as the other way;
- * where there is no room the driver's next frame waits for such a call.
+ * where there is no room the driver's next frame waits for such a call, which serves it. After MORE too the frame was
+ * moved out; kalyubos_go_on serves the others.
  *
  * From a console it moves out all output that waits, in place of a frame: `into` of 65536 bytes takes all that there may be.
  * Call it once after each kalyubos_write to the window. What finds no room waits with its driver for such a call, but the byte
  * of an emergency write (5.3.4) is lost then.
  */
+KALYUBOS_LOOK_AT_IT
 uint32_t kalyubos_take_frame(struct kalyubos *board, uint8_t slot, uint8_t window, uint8_t *into, size_t into_len,
                              size_t *len);
 
@@ -570,7 +576,7 @@ uint32_t kalyubos_interrupts(const struct kalyubos *board, uint8_t slot, uint8_t
 uint32_t kalyubos_disturbed(const struct kalyubos *board, uint8_t slot, bool *disturbed);
 
 /*
- * What the slot's disk and console did since the board was made; told in a pause too, and while something is in flight.
+ * What the slot's devices did since the board was made; told in a pause too, and while something is in flight.
  */
 uint32_t kalyubos_counters(const struct kalyubos *board, uint8_t slot, struct kalyubos_counters *counters);
 

@@ -70,6 +70,7 @@ pub not_block : (task : Task) (which : Service) → task ≡ Serve which → whi
 not_block task service.Block is other = absurd (other refl)
 not_block task service.Receive is other = rw is refl
 not_block task service.Transmit is other = rw is refl
+not_block task (service.Further n q) is other = rw is refl
 
 -- ---- the block device was notified
 

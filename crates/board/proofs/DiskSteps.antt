@@ -7,9 +7,9 @@ use Rattle.std.proofs.lemmas.Bool.Decides.{eqb_tells}
 use Rattle.std.proofs.lemmas.Option.{same_Some}
 use Rattle.guest_memory.specs.Memory.{Memory}
 use Rattle.mmio_window.specs.declared.action.Action.{Action}
-use Rattle.mmio_window.specs.declared.action.Action.TheVariants.{ConfigWrite, Notify}
+use Rattle.mmio_window.specs.declared.action.Action.TheVariants.{ConfigWrite}
 use Rattle.mmio_window.specs.Window.{WindowState}
-use Rattle.mmio_window.specs.Writing.{action_of, written}
+use Rattle.mmio_window.specs.Writing.{action_of}
 use Rattle.block_device.specs.declared.device.BlockDevice.{BlockDevice}
 use Rattle.block_device.specs.declared.operation.HostEvent.{HostEvent}
 use Rattle.block_device.specs.declared.operation.HostEvent.TheVariants.{Complete, Drop, Hold, Release}
@@ -17,14 +17,14 @@ use Rattle.block_device.specs.Flights.{HostedQueue, InFlight, freed, given_up}
 use Rattle.hosted_disk.specs.Disk.{HostedDisk, LooksUnless, ServesDisk, queue_of}
 use Rattle.hosted_disk.specs.Told.{QueueTold, held_by}
 use Rattle.device_list.specs.Card.{Card, with_frame, with_link}
-use Rattle.device_list.specs.Device.{DeviceState, Finishes, Receives, ServesDevice, TakesSent, Told, Writes, linked, resized}
+use Rattle.device_list.specs.Device.{DeviceState, Receives, ServesDevice, ServesNotified, TakesSent, Told, Writes, device_written, linked, notified_by, resized, taking, with_model}
 use Rattle.device_list.specs.List.{At, are_at_work, changed_at}
 use Rattle.snapshot.specs.declared.saved.SavedDevice.{SavedDevice}
 use Rattle.device_list.specs.Saved.{device_window_restored, first_restored, with_window}
 use Rattle.device_list.specs.Model.{Block, Console, Entropy, ModelState, Network, Serves, configured, disk_of, supplied_model, with_card, with_terminal, without_sent}
 use Rattle.device_list.specs.Terminal.{Terminal, with_size}
 use Rattle.board.specs.declared.event.DeviceEvent.{DeviceEvent}
-use Rattle.board.specs.declared.event.DeviceEvent.TheVariants.{Plug, Read, Write, Supply, Receive, TakeSent, SetLink, Resize, Host}
+use Rattle.board.specs.declared.event.DeviceEvent.TheVariants.{Plug, Read, Write, Supply, Receive, TakeSent, DropSent, SetLink, Resize, Host}
 use Rattle.board.specs.declared.event.EventKind.{EventKind}
 use Rattle.board.specs.declared.event.EventKind.TheVariants as event
 use Rattle.board.specs.Backing.{HostDisk, tags_in, with_tags}
@@ -85,7 +85,7 @@ own_way what old before outcome (Passes own free quiet h) =
     own_passes what old outcome.state kept.host kept.on_hold
 own_way what old before outcome (Looks rings looks h) =
     let ready = readied what old in
-    let kept = readied_fixed what old in
+    let kept = readied_fixed what old rings in
     IsLooked (hosted_device ready) (hosted_queue ready) (hosted_queue outcome.state)
     (subst (λ (b : Bool). LooksUnless b (hosted_device ready) (hosted_queue ready) (hosted_queue outcome.state))
     (kept.on_hold tt) looks.looks) (ap tags_in kept.host) refl
@@ -316,18 +316,27 @@ module _ {A : Type 0} (k : ℕ) (what : DeviceEvent A) (n : ℕ) (d : DeviceStat
       in_front (e ∷ devices) zero there = there
       in_front (e ∷ devices) (suc i) there = in_front devices i there
 
-finished_steps : (May : HostEvent → Type 0) (action : Action) (m m' : Memory) (d d' : DeviceState)
-    → Finishes action m m' d d' → ModelSteps May d.model d'.model
-finished_steps May (Notify q) m m' d d' h = serves_steps May d.model q m m' d.window d'.window d'.model h
-finished_steps May (ConfigWrite offset width value) m m' d d' h =
-    let left = configured_leaves offset value d.model in
-    let model : d'.model ≡ configured offset value d.model = ap (λ (e : DeviceState). e.model) h.is in
-    Same (ap flights_in model ∙ left.0) (ap holds_in model ∙ left.1)
-finished_steps May _ m m' d d' h = same_model May d.model d'.model h.state
+-- what its driver writes changes it so, and then a queue that is notified is served
+taking_leaves : (action : Action) → LeavesDisks (taking action)
+taking_leaves (ConfigWrite offset width value) model = configured_leaves offset value model
+taking_leaves _ model = (refl, refl)
+
+notified_steps : (May : HostEvent → Type 0) (q : Option ℕ) (m m' : Memory) (d d' : DeviceState)
+    → ServesNotified q m m' d d' → ModelSteps May d.model d'.model
+notified_steps May (Some q) m m' d d' h = serves_steps May d.model q m m' d.window d'.window d'.model h
+notified_steps May None m m' d d' h = same_model May d.model d'.model (ap (λ (e : DeviceState). e.model) h.1)
+
+written_steps : (May : HostEvent → Type 0) (offset width value : ℕ) (m m' : Memory) (d d' : DeviceState)
+    → Writes offset width value m m' d d' → ModelSteps May d.model d'.model
+written_steps May offset width value m m' d d' h =
+    let action = action_of offset width value d.window in
+    let left = taking_leaves action d.model in
+    changed_steps May d.model (taking action d.model) d'.model left.0 left.1
+    (notified_steps May (notified_by action) m m' (device_written offset width value m d) d' h)
 
 -- the host changes it so, and then its queue is served
 after_steps : (May : HostEvent → Type 0) (change : ModelState → ModelState) (q : ℕ) (m m' : Memory)
-    (d d' : DeviceState) → LeavesDisks change → ServesDevice q m m' (record d { model = change d.model }) d'
+    (d d' : DeviceState) → LeavesDisks change → ServesDevice q m m' (with_model change d) d'
     → ModelSteps May d.model d'.model
 after_steps May change q m m' d d' leaves h =
     changed_steps May d.model (change d.model) d'.model (leaves d.model).0 (leaves d.model).1
@@ -356,10 +365,12 @@ does_left {A} k n (Receive frame) d m m' old new there h =
 does_left {A} k n TakeSent d m m' old new there h =
     if_left k TakeSent n d _ TakesSent m m' old new there h (λ e e' same taken.
     after_steps _ without_sent 1 m m' e e' sent_leaves taken)
+does_left {A} k n DropSent d m m' old new there h =
+    if_left k DropSent n d _ TakesSent m m' old new there h (λ e e' same taken.
+    after_steps _ without_sent 1 m m' e e' sent_leaves taken)
 does_left {A} k n (Write offset width value) d m m' old new there h =
     if_left k (Write offset width value) n d _ (Writes offset width value) m m' old new there h
-    (λ e e' same wrote. finished_steps _ (action_of offset width value e.window) m m'
-    (record e { window = written offset width value m e.window }) e' wrote)
+    (λ e e' same wrote. written_steps _ offset width value m m' e e' wrote)
 does_left {A} k n (Host said) d m m' old new there h =
     if_left k (Host said) n d _ (Told said) m m' old new there h (λ e e' same told.
     told_steps _ said m m' e e' (same, refl) told)
@@ -549,7 +560,7 @@ way_devices {A} what old before outcome beside (Waits waits h) = ap (λ (o : Out
 way_devices what old before outcome beside (Passes own free quiet h) =
     (given_fixed old what before before outcome h).devices beside
 way_devices what old before outcome beside (Looks rings looks h) =
-    ap (λ (s : SlotState). s.devices) looks.rest ∙ (readied_fixed what old).devices tt
+    ap (λ (s : SlotState). s.devices) looks.rest ∙ (readied_fixed what old rings).devices tt
 way_devices {A} what old before outcome beside (Rests said is h) = ap (λ (o : Outcome A). o.state.devices) h
 way_devices what old before outcome beside (Lands tag verdict is completes h) =
     ap (λ (s : SlotState). s.devices) completes.looks.rest ∙ ap (λ (s : SlotState). s.devices) completes.lands.rest

@@ -17,7 +17,7 @@ use Rattle.board.specs.declared.event.Event.{Event}
 use Rattle.board.specs.declared.event.EventKind.{EventKind}
 use Rattle.board.specs.declared.event.EventKind.TheVariants as event
 use Rattle.board.specs.declared.reply.Record.{Record}
-use Rattle.board.specs.declared.pause.Service.TheVariants.{Block, Receive, Transmit}
+use Rattle.board.specs.declared.pause.Service.TheVariants.{Block, Receive, Transmit, Further}
 use Rattle.board.specs.Durable.{IsLeftAsSeen}
 use Rattle.board.specs.Image.{Health, Tells, bytes_of, disk_with}
 use Rattle.board.specs.Line.{IsLine, Move}
@@ -61,6 +61,7 @@ finished_clean (Serve Block) state old new outcome clean h =
     (disk_with state.extent old) (disk_with outcome.state.extent new) clean h.notified
 finished_clean (Serve Receive) state old new outcome clean h = same_dirty old new h.image clean
 finished_clean (Serve Transmit) state old new outcome clean h = same_dirty old new h.image clean
+finished_clean (Serve (Further n q)) state old new outcome clean h = absurd h
 finished_clean (PutOut byte) state old new outcome clean h = same_dirty old new h.image clean
 
 served_clean : {A : Type 0} (state : SlotState) (what : EventKind A) (old new : Health) (outcome : Outcome A)

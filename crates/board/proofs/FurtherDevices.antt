@@ -22,11 +22,11 @@ use Rattle.device_list.specs.declared.refusal.ReceiveRefusal.{ReceiveRefusal}
 use Rattle.device_list.specs.declared.refusal.ReceiveRefusal.TheVariants.{Frame}
 use Rattle.device_list.proofs.One.{reception_once, supply_once, taking_once, word_once, write_once}
 use Rattle.board.specs.declared.event.DeviceEvent.{DeviceEvent}
-use Rattle.board.specs.declared.event.DeviceEvent.TheVariants.{Plug, Read, Write, Supply, Receive, TakeSent, SetLink, Resize, Host}
+use Rattle.board.specs.declared.event.DeviceEvent.TheVariants.{Plug, Read, Write, Supply, Receive, TakeSent, DropSent, SetLink, Resize, Host}
 use Rattle.board.specs.declared.event.EventKind.TheVariants.{Device}
 use Rattle.board.specs.declared.reply.Reply.{Reply}
 use Rattle.board.specs.declared.reply.Reply.TheVariants.{Value, Done, Bytes, Took, BadDevice, Busy, Idle, NoMemory}
-use Rattle.board.specs.Devices.{DoesTo, GivesByDevice, GivesDevice, AreSet, DoesIf, IsDeviceStep, IsUnmet, MayReplyDevice, StaysSo, TakesMemoryFor, can_plug, device_reply, has_effect_at, received_reply, reply_at, taken_reply, told_reply, waits_for_disk, waits_there}
+use Rattle.board.specs.Devices.{DoesTo, GivesByDevice, GivesDevice, AreSet, DoesIf, IsDeviceStep, IsUnmet, MayReplyDevice, StaysSo, TakesMemoryFor, can_plug, device_reply, has_effect_at, received_reply, reply_at, told_reply, waits_for_disk, waits_there}
 use Rattle.board.specs.Waiting.{may_wait_there}
 use Rattle.board.specs.Image.{Health}
 use Rattle.board.specs.Outcome.{Outcome, replies}
@@ -133,6 +133,12 @@ taken_may None reply is = absurd (cc)
 taken_may {A} (Some sent) reply is =
     subst (λ (r : Reply A). MayReplyDevice TakeSent r) (same_Some (Bytes (unwrap_or sent [])) reply is) tt
 
+dropped_may : {A : Type 0} (found : Option (Option (List ℕ))) (reply : Reply A)
+    → option_map (λ sent. Took (length (unwrap_or sent []))) found ≡ Some reply → MayReplyDevice DropSent reply
+dropped_may None reply is = absurd (cc)
+dropped_may {A} (Some sent) reply is =
+    subst (λ (r : Reply A). MayReplyDevice DropSent r) (same_Some (Took (length (unwrap_or sent []))) reply is) tt
+
 linked_may : {A : Type 0} (up : Bool) (found : Option Card) (reply : Reply A)
     → option_map (λ card. Done) found ≡ Some reply → MayReplyDevice (SetLink up) reply
 linked_may up None reply is = absurd (cc)
@@ -164,6 +170,7 @@ reply_may n (Supply bytes) state reply is = found_may (Supply bytes) (slice_get 
 reply_may n (Receive frame) state reply is =
     received_may frame (receive_refusal frame (card_at n state.devices)) reply is
 reply_may n TakeSent state reply is = taken_may (outgoing_at n state.devices) reply is
+reply_may n DropSent state reply is = dropped_may (outgoing_at n state.devices) reply is
 reply_may n (SetLink up) state reply is = linked_may up (card_at n state.devices) reply is
 reply_may n (Resize cols rows) state reply is = resized_may cols rows (terminal_at n state.devices) reply is
 reply_may n (Host said) state reply is = told_may said (has_effect_at n said state.devices) reply is
@@ -175,6 +182,7 @@ bad_may (Write offset width value) = tt
 bad_may (Supply bytes) = tt
 bad_may (Receive frame) = tt
 bad_may TakeSent = tt
+bad_may DropSent = tt
 bad_may (SetLink up) = tt
 bad_may (Resize cols rows) = tt
 bad_may (Host said) = tt
@@ -238,6 +246,9 @@ alters_once (Receive frame) n m one other old new new' a b =
 alters_once TakeSent n m one other old new new' a b =
     does_if_once (is_some (sent_by n old)) TakesSent n m one other old new new'
     (taking_once n m one other old new new') a b
+alters_once DropSent n m one other old new new' a b =
+    does_if_once (is_some (sent_by n old)) TakesSent n m one other old new new'
+    (taking_once n m one other old new new') a b
 alters_once (Read offset width) n m one other old new new' a b =
     still_once n m one other old new new'
     (record { before = a.before; after = a.after; there = a.there; changes = a.changes; is = a.is })
@@ -295,19 +306,6 @@ pub read_given : (A : Type 0) (n offset width value : ℕ) (state : SlotState) (
     → GivesDevice {A = A} n (Read offset width) state health health (replies state (Value value))
 read_given A n offset width value state health is =
     read_at A n offset width value state health (slice_get state.devices n) refl (sym is)
-
--- ---- what was sent is taken away by who has copied it
-
-abbrev answer_by : (A : Type 0) → Option (Option (List ℕ)) → Reply A
-answer_by A found = unwrap_or (option_map (λ sent. Bytes (unwrap_or sent [])) found) BadDevice
-
-taken_by : (A : Type 0) (found : Option (Option (List ℕ))) → answer_by A found ≢ NoMemory
-taken_by A None = λ same. absurd (cc (same))
-taken_by A (Some sent) = λ same. absurd (cc (same))
-
--- there is memory for that
-pub taken_answered : (A : Type 0) (n : ℕ) (devices : List DeviceState) → taken_reply {A = A} n devices ≢ NoMemory
-taken_answered A n devices = taken_by A (outgoing_at n devices)
 
 -- ---- a busy answer and an idle one change nothing
 

@@ -234,15 +234,16 @@ pub makes_up : {A : Type 0} (old : SlotState) (what : EventKind A) (wait late pr
     → IsNext wait.state (Host Release) late → IsNext (released old) what prompt → late.state ≡ prompt.state
 makes_up {A} old what wait late prompt hosted rings free w l p =
     let ready = readied what (held old) in
+    let ringing : notifies_block what (held old) ≡ true = rings_on true what old ∙ rings in
     let stands : wait.state ≡ ready =
-    unlooked_same ready wait.state ((readied_fixed what (held old)).on_hold tt)
-    (looks_next old.host (held old) what at_rest w.after wait hosted (rings_on true what old ∙ rings) free w.gives) in
+    unlooked_same ready wait.state ((readied_fixed what (held old) ringing).on_hold tt)
+    (looks_next old.host (held old) what at_rest w.after wait hosted ringing free w.gives) in
     let host : wait.state.host ≡ old.host =
-    ap (λ (s : SlotState). s.host) stands ∙ (readied_fixed what (held old)).host in
+    ap (λ (s : SlotState). s.host) stands ∙ (readied_fixed what (held old) ringing).host in
     let looks : LooksAtQueue (released wait.state) late.state =
     release_next wait.state.host wait.state at_rest l.after late
     (subst (λ (k : Option HostDisk). IsSome k) (sym host) hosted)
-    (ap (λ (s : SlotState). s.on_hold) stands ∙ (readied_fixed what (held old)).on_hold tt) l.gives in
+    (ap (λ (s : SlotState). s.on_hold) stands ∙ (readied_fixed what (held old) ringing).on_hold tt) l.gives in
     let prompted : LooksAtQueue (readied what (released old)) prompt.state =
     looks_next old.host (released old) what at_rest p.after prompt hosted (rings_on false what old ∙ rings) free
     p.gives in

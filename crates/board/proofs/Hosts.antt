@@ -1,29 +1,30 @@
 -- What an event of a slot comes to by who has its disk.
-use Rattle.std.proofs.Common.{◌≡◌, ◌≢◌, ℕ, zero, Bool, true, false, Option, Some, None, List, [], refl, sym, ap, subst, append-nil}
+use Rattle.std.proofs.Common.{◌≡◌, ◌≢◌, ◌⊎◌, inl, inr, ℕ, zero, Bool, true, false, Option, Some, None, List, [], refl, sym, ◌∙◌, ap, subst, append-nil}
 use Rattle.std.specs.Prelude.{◌&&◌, ◌||◌, if◌then◌else◌, IfErr, IsSome, OnErr, OnOk, Ok, Err, Result, is_some}
 use Rattle.chain.specs.declared.budget.Budget.{Budget}
 use Rattle.block_device.specs.Flights.{is_any}
 use Rattle.board.specs.declared.event.SlotWindow.{SlotWindow}
 use Rattle.board.specs.declared.event.SlotWindow.TheVariants.{Block}
+use Rattle.console_device.specs.Input.{fitting}
 use Rattle.board.specs.declared.event.EventKind.{EventKind}
 use Rattle.block_device.specs.declared.operation.HostEvent.{HostEvent}
 use Rattle.board.specs.declared.event.DeviceEvent.{DeviceEvent}
 use Rattle.board.specs.declared.event.EventKind.TheVariants.{Write, Input, Restore, Host, Device}
 use Rattle.board.specs.declared.pause.Pause.{Pause}
 use Rattle.board.specs.declared.pause.Service.{Service}
-use Rattle.mmio_window.specs.declared.stage.Stage.TheVariants.{Next}
+use Rattle.mmio_window.specs.declared.stage.Stage.TheVariants.{First, Next}
 use Rattle.board.specs.declared.pause.Turn.{Turn}
-use Rattle.board.specs.declared.pause.Turn.TheVariants.{Answered}
+use Rattle.board.specs.declared.pause.Turn.TheVariants.{Answered, More}
 use Rattle.board.specs.declared.reply.Reply.{Reply}
-use Rattle.board.specs.declared.reply.Reply.TheVariants.{Busy, NoMemory}
+use Rattle.board.specs.declared.reply.Reply.TheVariants.{Busy, NoMemory, Took}
 use Rattle.board.specs.Backing.{HostDisk, tags_in}
 use Rattle.board.specs.Hosting.{HostGives, HostOrGives, LooksAtQueue, OwnGives, has_part, is_block_task, must_wait, notifies_block, told_in, waits_now}
 use Rattle.board.specs.Image.{Health, sectors_of}
 use Rattle.board.specs.Outcome.{Outcome, does, replies}
-use Rattle.board.specs.Pausing.{Begins, BeginsOverImage, ComesTo, GoesOn, GoesOnBy, ServesTurn, TurnsTo, asked_over_image, is_hosts, readied}
+use Rattle.board.specs.Pausing.{Begins, BeginsOverImage, ComesTo, EndsBy, GoesOn, GoesOnBy, PausesByLimit, ServesTurn, TurnsTo, asked_over_image, input_service, is_hosts, readied, reply_of}
 use Rattle.board.specs.declared.pause.Service.TheVariants as service
-use Rattle.board.specs.Machine.{action_at, task_at}
-use Rattle.board.specs.Quiet.{AnswersQuietly, DoesToDevice}
+use Rattle.board.specs.Machine.{action_at, task_at, with_input}
+use Rattle.board.specs.Quiet.{AnswersQuietly, BeginsAtDevice, BeginsQuietly, DoesToDevice}
 use Rattle.board.specs.Restoring.{refusal_of, restore_reply, taken_up_reply}
 use Rattle.board.specs.Saved.{IsCauseOf, IsRestored}
 use Rattle.board.specs.declared.saved.RestoreFault.{RestoreFault}
@@ -122,6 +123,7 @@ goes_on None which other = refl
 goes_on (Some disk) service.Block other = absurd (other refl)
 goes_on (Some disk) service.Receive other = refl
 goes_on (Some disk) service.Transmit other = refl
+goes_on (Some disk) (service.Further n q) other = refl
 
 pub serves_on : {A : Type 0} (pause : Pause) (budget : Budget) (state : SlotState) (before after : Health)
     (new : SlotState) (turn : Turn A) (out out' : List ℕ) → is_hosts state.host pause.service ≡ false
@@ -149,6 +151,69 @@ begins_passing {A} what budget state health new output turn free h =
     subst (λ (b : Bool). TurnsTo (λ (o : Outcome A). MayGive state what health health o)
     (if b then None else asked_over_image what state) what budget state health health new output turn)
     (sym free) passing
+
+-- no limit
+abbrev pub unlimited : Budget
+unlimited = record { chains = None; bytes = None }
+
+-- so what is done to a further device begins, whoever has the slot's disk
+pub device_begins : {A : Type 0} (n : ℕ) (what : DeviceEvent A) (budget : Budget) (old new : BoardSlot) (turn : Turn A)
+    → turn ≢ Answered NoMemory → BeginsAtDevice n what budget old new turn
+    → BeginsQuietly old (Device n what) budget new turn
+device_begins n what budget old new turn answered does = record {
+  begins = λ image health.
+      begins_passing (Device n what) budget (state_of image old) health (state_of image new) [] turn
+      (no_part old.host (Device n what) (state_of image old) refl (no_wait (is_any (tags_in old.host))) refl)
+      (does.begins image health);
+  extent = ap (λ (s : BoardSlot). s.extent) does.rest;
+  disturbed = ap (λ (s : BoardSlot). s.disturbed) does.rest;
+  limited = does.limited;
+  there = does.there;
+  answered = answered;
+}
+
+-- and what is typed
+pub input_begins : {A : Type 0} (bytes : List ℕ) (budget : Budget) (old new : BoardSlot) (turn : Turn A)
+    → ((image : List ℕ) (health : Health) → ComesTo (input_service old.pending bytes) First budget
+    (with_input bytes (state_of image old)) health health (state_of image new) [] turn)
+    → new ≡ record old { memory = new.memory; console = new.console; pending = new.pending }
+    → PausesByLimit budget turn
+    → (turn ≡ More (input_service old.pending bytes)) ⊎ (turn ≡ Answered (reply_of (input_service old.pending bytes)))
+    → BeginsQuietly old (Input bytes) budget new turn
+input_begins {A} bytes budget old new turn comes rest limited took = record {
+  begins = λ image health.
+      begins_passing (Input bytes) budget (state_of image old) health (state_of image new) [] turn
+      (input_passes A old.host bytes (state_of image old)) (comes image health);
+  extent = ap (λ (s : BoardSlot). s.extent) rest;
+  disturbed = ap (λ (s : BoardSlot). s.disturbed) rest;
+  limited = limited;
+  there = λ bad. elim took [ inl is ↦ absurd (cc (is, bad)) | inr is ↦ absurd (cc (is, bad)) ];
+  answered = λ lacks. elim took [ inl is ↦ absurd (cc (is, lacks)) | inr is ↦ absurd (cc (is, lacks)) ];
+}
+
+-- which without a limit is done at once
+typed_ends : {A : Type 0} (pause : Pause) (taken : ℕ) (old : SlotState) (health : Health) (new : SlotState) (reply : Reply A)
+    → pause ≡ record { service = service.Receive; taken = Some taken }
+    → EndsBy pause First unlimited old health health new [] reply → reply ≡ Took taken
+typed_ends pause taken old health new reply is (inl (done, piece)) = done ∙ ap reply_of is
+typed_ends pause taken old health new reply is (inr (lacks, (other, piece))) =
+    let never : service.Receive ≡ service.Transmit = sym (ap (λ (p : Pause). p.service) is) ∙ other in
+    absurd (cc (never))
+
+pub typed_whole : {A : Type 0} (bytes : List ℕ) (old new : BoardSlot) (turn : Turn A)
+    → BeginsQuietly old (Input bytes) unlimited new turn → turn ≡ Answered (Took (fitting old.pending bytes))
+typed_whole {A} bytes old new (More next) h =
+    elim (h.limited next refl) [ inl limit ↦ absurd (limit refl) | inr limit ↦ absurd (limit refl) ]
+typed_whole {A} bytes old new (Answered reply) h =
+    let rest : Health = record { failures = 0; dirty = false } in
+    let begins : TurnsTo (λ (o : Outcome A). MayGive (state_of [] old) (Input bytes) rest rest o)
+    (Some (input_service old.pending bytes)) (Input bytes) unlimited (state_of [] old) rest rest (state_of [] new) []
+    (Answered reply) =
+    subst (λ (b : Bool). TurnsTo (λ (o : Outcome A). MayGive (state_of [] old) (Input bytes) rest rest o)
+    (if b then None else Some (input_service old.pending bytes)) (Input bytes) unlimited (state_of [] old) rest rest
+    (state_of [] new) [] (Answered reply)) (input_passes A old.host bytes (state_of [] old)) (h.begins [] rest) in
+    ap (λ r. Answered r) (typed_ends (input_service old.pending bytes) (fitting old.pending bytes)
+    (with_input bytes (state_of [] old)) rest (state_of [] new) reply refl begins)
 
 pub serves_passing : {A : Type 0} (what : EventKind A) (budget : Budget) (state : SlotState)
     (health : Health) (new : SlotState) (turn : Turn A) (out out' : List ℕ)

@@ -1,6 +1,6 @@
 -- What no event changes: an identity, and over an image who has a guest's disk. Only a restore changes whether the
 -- slot is on hold, and only that and what is done to them the further devices.
-use Rattle.std.proofs.Common.{◌≡◌, inl, inr, ℕ, List, [], ◌∷◌, refl, sym, ap, ◌∙◌}
+use Rattle.std.proofs.Common.{◌≡◌, inl, inr, ℕ, List, [], ◌∷◌, refl, sym, ap, ◌∙◌, true}
 use Rattle.std.specs.Prelude.{⊤}
 use Rattle.std.proofs.Math.Seq.{map-set_same}
 use Rattle.board.specs.declared.event.SlotWindow.{SlotWindow}
@@ -10,7 +10,7 @@ use Rattle.board.specs.declared.event.EventKind.{EventKind}
 use Rattle.board.specs.declared.event.EventKind.TheVariants.{Write, MemRead, MemWrite, Input, Restore, Device}
 use Rattle.board.specs.declared.reply.Record.{Record}
 use Rattle.board.specs.declared.pause.Service.TheVariants as service
-use Rattle.board.specs.Hosting.{IsNoRestore}
+use Rattle.board.specs.Hosting.{IsNoRestore, notifies_block}
 use Rattle.board.specs.Image.{Health}
 use Rattle.board.specs.Line.{Move, IsLine}
 use Rattle.board.specs.Machine.{task_at, with_write}
@@ -66,9 +66,11 @@ write_fixed : {Keeps Beside : Type 0} (window : SlotWindow) (offset width value 
 write_fixed Block offset width value state = alike state _ refl refl refl refl
 write_fixed Console offset width value state = alike state _ refl refl refl refl
 
-pub readied_fixed : {A : Type 0} (what : EventKind A) (state : SlotState) → Fixed ⊤ ⊤ state (readied what state)
-readied_fixed (Write window offset width value) state = write_fixed window offset width value state
-readied_fixed _ state = alike state _ refl refl refl refl
+-- and so before the block device looks at its queue
+pub readied_fixed : {A : Type 0} (what : EventKind A) (state : SlotState) → notifies_block what state ≡ true
+    → Fixed ⊤ ⊤ state (readied what state)
+readied_fixed (Write window offset width value) state rings = write_fixed window offset width value state
+readied_fixed _ state rings = absurd (cc (rings))
 
 behind : {Keeps Beside : Type 0} (a b c : SlotState) → Fixed Keeps Beside a b → Fixed Keeps Beside b c
     → Fixed Keeps Beside a c
@@ -86,6 +88,7 @@ finished_fixed Nothing state old new outcome h = fixed state outcome _ h.alike r
 finished_fixed (PutOut byte) state old new outcome h = fixed state outcome _ h.alike refl refl refl (λ beside. refl)
 finished_fixed (Serve service.Block) state old new outcome h =
     fixed state outcome _ h.is refl refl refl (λ beside. refl)
+finished_fixed (Serve (service.Further n q)) state old new outcome h = absurd h
 finished_fixed _ state old new outcome h = fixed state outcome _ h.is refl refl refl (λ beside. refl)
 
 -- an event of a slot over an image
@@ -134,7 +137,7 @@ on_host_named state what old outcome (Waits waits h) = ap (λ o. o.state.identit
 on_host_named state what old outcome (Passes own free quiet h) =
     (given_fixed state what old old outcome h).identity
 on_host_named state what old outcome (Looks rings looks h) =
-    ap (λ (s : SlotState). s.identity) looks.rest ∙ (readied_fixed what state).identity
+    ap (λ (s : SlotState). s.identity) looks.rest ∙ (readied_fixed what state rings).identity
 on_host_named state what old outcome (Rests said is h) = ap (λ o. o.state.identity) h
 on_host_named state what old outcome (Lands tag verdict is completes h) =
     ap (λ (s : SlotState). s.identity) completes.looks.rest

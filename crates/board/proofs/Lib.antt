@@ -4,6 +4,8 @@ pub mod Restoring
 pub mod OneRun
 pub mod Blocks
 pub mod FurtherDevices
+pub mod FurtherPieces
+pub mod FurtherBegins
 pub mod FurtherDisks
 pub mod Outside
 pub mod Lists

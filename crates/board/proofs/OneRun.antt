@@ -22,7 +22,7 @@ use Rattle.board.specs.declared.event.EventKind.TheVariants as event
 use Rattle.board.specs.declared.reply.Reply.{Reply}
 use Rattle.board.specs.declared.reply.Reply.TheVariants.{Done, Took}
 use Rattle.board.specs.declared.reply.Record.{Record}
-use Rattle.board.specs.declared.pause.Service.TheVariants.{Block, Receive, Transmit}
+use Rattle.board.specs.declared.pause.Service.TheVariants.{Block, Receive, Transmit, Further}
 use Rattle.board.specs.Backing.{HostDisk}
 use Rattle.board.specs.Hosting.{HostOrGives, LooksOrGives, OwnGives, is_block_task, notifies_block, told_in, waits_now}
 use Rattle.board.specs.Image.{Health, disk_with}
@@ -55,6 +55,7 @@ finishes_at_rest Nothing old before after outcome h =
     record { health = at_rest; finishes = record { alike = h.alike; image = refl } }
 finishes_at_rest (PutOut byte) old before after outcome h =
     record { health = at_rest; finishes = record { alike = h.alike; image = refl } }
+finishes_at_rest (Serve (Further n q)) old before after outcome h = absurd h
 finishes_at_rest _ old before after outcome h =
     record { health = at_rest; finishes = record { notified = h.notified; is = h.is; image = refl } }
 
@@ -85,6 +86,7 @@ task_beside : {A : Type 0} (task : Task) (old : SlotState) (health : Health) (ou
 task_beside (Serve Block) old health outcome quiet h = absurd (cc)
 task_beside Nothing old health outcome quiet h = record { alike = h.alike; image = refl }
 task_beside (PutOut byte) old health outcome quiet h = record { alike = h.alike; image = refl }
+task_beside (Serve (Further n q)) old health outcome quiet h = absurd h
 task_beside _ old health outcome quiet h = record { notified = h.notified; is = h.is; image = refl }
 
 rests_beside : {A : Type 0} (state : SlotState) (what : EventKind A) (health : Health) (outcome : Outcome A)
@@ -245,6 +247,7 @@ finishes_once : {A : Type 0} (task : Task) (old : SlotState) (h k : Health) (one
 finishes_once (Serve Block) old h k one other a b = block_once (device_of old) old h k one other a b
 finishes_once (Serve Receive) old h k one other a b = received_once old Done h k one other a b
 finishes_once (Serve Transmit) old h k one other a b = transmitted_once old h k one other a b
+finishes_once (Serve (Further n q)) old h k one other a b = absurd a
 finishes_once _ old h k one other a b = a.alike ∙ sym b.alike
 
 -- an event has at most one outcome over an image

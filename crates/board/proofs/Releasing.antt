@@ -15,7 +15,7 @@ use Rattle.block_device.specs.declared.operation.HostEvent.TheVariants.{Release}
 use Rattle.block_device.specs.Flights.{HostedQueue, IsLook, is_any}
 use Rattle.hosted_disk.specs.Disk.{HostedDisk, LooksUnless, queue_of}
 use Rattle.hosted_disk.proofs.One.{look_queue}
-use Rattle.device_list.specs.Device.{DeviceState, Finishes, ServesDevice, Writes}
+use Rattle.device_list.specs.Device.{DeviceState, ServesNotified, Writes, notified_by, taking}
 use Rattle.device_list.specs.List.{At, waits_at}
 use Rattle.device_list.specs.Model.{Block, Console, Entropy, ModelState, Network, Serves, disk_of, must_wait}
 use Rattle.board.specs.declared.event.DeviceEvent.{DeviceEvent}
@@ -70,10 +70,12 @@ same_wait on_hold offset (Block disk) = refl
 same_wait on_hold offset _ = refl
 
 -- what a notification leaves to be done is the service of queue 0
-serves_asked : (action : Action) (m m' : Memory) (d d' : DeviceState) → asks_service action ≡ true
-    → Finishes action m m' d d' → ServesDevice 0 m m' d d'
-serves_asked (Notify zero) m m' d d' asks h = h
-serves_asked _ m m' d d' asks h = absurd (cc asks)
+serves_asked : (action : Action) (m m' : Memory) (w : WindowState) (model : ModelState) (d' : DeviceState)
+    → asks_service action ≡ true
+    → ServesNotified (notified_by action) m m' (record { window = w; model = taking action model }) d'
+    → Serves model 0 m m' w d'.window d'.model
+serves_asked (Notify zero) m m' w model d' asks h = h
+serves_asked _ m m' w model d' asks h = absurd (cc asks)
 
 module _ (n offset width value : ℕ) (old : SlotState) (d : DeviceState) (disk : HostedDisk)
     (there : slice_get old.devices n ≡ Some d) (block : d.model ≡ Block disk)
@@ -146,8 +148,8 @@ module _ (n offset width value : ℕ) (old : SlotState) (d : DeviceState) (disk 
       subst (λ (e : DeviceState). Writes offset width value old.memory new.memory e at.after) was at.changes in
       let serves : Serves (model_held on_hold d.model) 0 old.memory new.memory noted.window at.after.window
       at.after.model =
-      serves_asked (action_of offset width value d.window) old.memory new.memory
-      (record (device_so on_hold) { window = noted.window }) at.after asks finishes in
+      serves_asked (action_of offset width value d.window) old.memory new.memory noted.window
+      (model_held on_hold d.model) at.after asks finishes in
       served_so on_hold new at.after.window at.after.model
       (subst (λ (m : ModelState).
       Serves (model_held on_hold m) 0 old.memory new.memory noted.window at.after.window at.after.model) block serves)

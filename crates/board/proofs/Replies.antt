@@ -9,7 +9,7 @@ use Rattle.block_device.specs.declared.operation.HostEvent.TheVariants.{Complete
 use Rattle.board.specs.declared.event.EventKind.TheVariants.{Write, MemRead, MemWrite, Input, Restore, Host, Device}
 use Rattle.board.specs.declared.reply.Reply.{Reply}
 use Rattle.board.specs.declared.reply.Reply.TheVariants.{Done, Bytes, BadRange, BadState, Busy, Idle, NoMemory}
-use Rattle.board.specs.declared.pause.Service.TheVariants.{Block}
+use Rattle.board.specs.declared.pause.Service.TheVariants.{Block, Further}
 use Rattle.block_device.specs.Flights.{is_any}
 use Rattle.board.specs.Backing.{tags_in}
 use Rattle.board.specs.Hosting.{must_wait, notifies_block, told_in}
@@ -33,6 +33,7 @@ finished_done : {A : Type 0} (task : Task) (state : SlotState) (before after : H
 finished_done {A} Nothing state before after outcome f = ap (λ (o : Outcome A). o.reply) f.alike
 finished_done {A} (PutOut byte) state before after outcome f = ap (λ (o : Outcome A). o.reply) f.alike
 finished_done {A} (Serve Block) state before after outcome f = ap (λ (o : Outcome A). o.reply) f.is
+finished_done (Serve (Further n q)) state before after outcome f = absurd f
 finished_done {A} _ state before after outcome f = ap (λ (o : Outcome A). o.reply) f.is
 
 by_reply : {A : Type 0} (what : EventKind A) (reply said : Reply A) → reply ≡ said → MayReplyOverImage what said

@@ -1,34 +1,41 @@
 -- A service in one piece is what an event comes to.
-use Rattle.std.proofs.Common.{◌≡◌, ◌≢◌, ◌⊎◌, inl, inr, ℕ, Bool, true, false, Option, Some, None, List, [], refl, ap, subst}
-use Rattle.std.specs.Prelude.{if◌then◌else◌}
+use Rattle.std.proofs.Common.{◌≡◌, ◌≢◌, ◌⊎◌, inl, inr, ℕ, zero, suc, ◌%◌, ◌^◌, Bool, true, false, Option, Some, None, List, [], refl, ap, subst}
+use Rattle.std.specs.Prelude.{◌==◌, if◌then◌else◌}
 use Rattle.chain.specs.declared.budget.Budget.{Budget}
 use Rattle.chain.specs.declared.budget.Progress.TheVariants as progress
 use Rattle.chain.specs.Service.{Device, Refused}
 use Rattle.mmio_window.specs.declared.stage.Stage.{Stage}
 use Rattle.mmio_window.specs.declared.stage.Stage.TheVariants.{First}
 use Rattle.sector_cache.specs.Disk.{Disk}
+use Rattle.mmio_window.specs.declared.action.Action.{Action}
+use Rattle.mmio_window.specs.declared.action.Action.TheVariants.{ConfigWrite, Notify}
+use Rattle.board.specs.declared.event.DeviceEvent.{DeviceEvent as FurtherEvent}
 use Rattle.board.specs.declared.event.SlotWindow.{SlotWindow}
+use Rattle.board.specs.declared.event.SlotWindow.TheVariants.{Block as SlotBlock, Console as SlotConsole}
+use Rattle.console_device.specs.Config.{emergency_write}
+use Rattle.board.specs.Devices.{device_asks}
+use Rattle.board.proofs.FurtherPieces.{asking, further_whole}
 use Rattle.mmio_window.specs.Window.{queue_at}
 use Rattle.mmio_window.proofs.Pieces.{notified_once}
 use Rattle.block_device.specs.Device.{block_device, exact_device}
 use Rattle.console_device.specs.Device.{receive, exact_transmit, transmit}
 use Rattle.console_device.specs.Input.{fitting}
 use Rattle.board.specs.declared.event.EventKind.{EventKind}
-use Rattle.board.specs.declared.event.EventKind.TheVariants.{Write, Input}
-use Rattle.board.specs.declared.pause.Service.TheVariants.{Block, Receive, Transmit}
+use Rattle.board.specs.declared.event.EventKind.TheVariants.{Write, Input, Device as DeviceEvent}
+use Rattle.board.specs.declared.pause.Service.TheVariants.{Block, Receive, Transmit, Further}
 use Rattle.board.specs.declared.pause.Turn.TheVariants.{Answered}
 use Rattle.board.specs.declared.reply.Reply.{Reply}
 use Rattle.board.specs.declared.reply.Reply.TheVariants.{Done, Took, NoMemory}
 use Rattle.board.specs.Image.{Health, disk_with}
-use Rattle.board.specs.Machine.{task_at, with_input, with_write}
+use Rattle.board.specs.Machine.{readied, task_at, with_input, with_write}
 use Rattle.board.specs.Outcome.{Outcome}
 use Rattle.board.specs.Backing.{HostDisk}
 use Rattle.board.specs.Hosting.{has_part, is_block_task, notifies_block}
 use Rattle.board.specs.declared.pause.Pause.{Pause}
 use Rattle.board.specs.declared.pause.Service.{Service}
-use Rattle.board.specs.Pausing.{Begins, BeginsOverImage, EndsBy, IsBlockPiece, IsReceivePiece, IsTransmitPiece, TurnsTo, asked_by, asked_over_image}
+use Rattle.board.specs.Pausing.{Begins, BeginsOverImage, EndsBy, IsBlockPiece, IsFurtherPiece, IsReceivePiece, IsTransmitPiece, TurnsTo, asked_by, asked_over_image}
 use Rattle.board.specs.Slot.{SlotState}
-use Rattle.board.specs.Task.{Task, Nothing, Serve, PutOut, Finishes, IsBlockService, IsReceiveService, device_of}
+use Rattle.board.specs.Task.{Task, Nothing, Serve, PutOut, task_of, Finishes, IsBlockService, IsReceiveService, device_of}
 use Rattle.board.specs.World.{IsCutShort, MayGive, MayGiveBy, MayGiveOverImage}
 use Rattle.board.proofs.OnHost.{passes, ringing_part}
 use Rattle.board.proofs.Turns.{task_given}
@@ -126,6 +133,18 @@ transmit_ended budget mid before after new output reply (inr (lacks, (is, h))) =
   image = h.image;
 })
 
+-- no write of the slot's own windows leaves a further device's service
+pub none_further : (window : SlotWindow) (action : Action) (n q : ℕ) → task_of window action ≡ Serve (Further n q) → ⊥
+none_further SlotBlock (Notify zero) n q is = absurd (cc (is))
+none_further SlotConsole (Notify zero) n q is = absurd (cc (is))
+none_further SlotConsole (Notify (suc zero)) n q is = absurd (cc (is))
+none_further SlotConsole (ConfigWrite offset width value) n q is = by_offset (offset == emergency_write) is
+  where
+    by_offset : (test : Bool) → (if test then PutOut (value % 2 ^ 8) else Nothing) ≡ Serve (Further n q) → ⊥
+    by_offset true is = absurd (cc (is))
+    by_offset false is = absurd (cc (is))
+none_further _ _ n q is = absurd (cc (is))
+
 write_whole : {A : Type 0} (state : SlotState) (window : SlotWindow) (offset width value : ℕ)
     (budget : Budget) (before after : Health) (new : SlotState) (output : List ℕ) (reply : Reply A)
     (task : Task) → task_at window offset width value state ≡ task
@@ -142,6 +161,8 @@ write_whole state window offset width value budget before after new output reply
 write_whole state window offset width value budget before after new output reply (Serve Transmit) is h =
     task_given state window (Serve Transmit) offset width value before after (came new reply output) is
     (transmit_ended budget (with_write window offset width value state) before after new output reply h)
+write_whole state window offset width value budget before after new output reply (Serve (Further n q)) is h =
+    absurd (none_further window _ n q is)
 write_whole state window offset width value budget before after new output reply (PutOut byte) is h = h
 
 input_whole : {A : Type 0} (state : SlotState) (bytes : List ℕ) (budget : Budget) (before after : Health)
@@ -157,6 +178,17 @@ input_whole state bytes budget before after new output reply (inl (done, h)) = i
 })
 input_whole state bytes budget before after new output reply (inr (lacks, (other, h))) = absurd (cc)
 
+-- what is done to a further device, by the service that it asks for
+device_whole : {A : Type 0} (n : ℕ) (what : FurtherEvent A) (budget : Budget) (state : SlotState)
+    (before after : Health) (new : SlotState) (output : List ℕ) (reply : Reply A) (asks : Option Pause)
+    → device_asks n what state ≡ asks
+    → TurnsTo (λ c. MayGiveOverImage state (DeviceEvent n what) before after c) asks (DeviceEvent n what) budget state
+    before after new output (Answered reply)
+    → MayGiveOverImage state (DeviceEvent n what) before after (came new reply output)
+device_whole n what budget state before after new output reply None is h = h
+device_whole n what budget state before after new output reply (Some pause) is h =
+    further_whole n what state pause budget before after new output reply is h
+
 -- An event that is answered in its first turn came to what it may come to: over an image.
 pub whole_over_image : {A : Type 0} (what : EventKind A) (budget : Budget) (state : SlotState) (before after : Health)
     (new : SlotState) (output : List ℕ) (reply : Reply A)
@@ -167,6 +199,8 @@ whole_over_image (Write window offset width value) budget state before after new
     (task_at window offset width value state) refl h
 whole_over_image (Input bytes) budget state before after new output reply h =
     input_whole state bytes budget before after new output reply h
+whole_over_image (DeviceEvent n what) budget state before after new output reply h =
+    device_whole n what budget state before after new output reply (device_asks n what state) refl h
 whole_over_image _ budget state before after new output reply h = h
 
 -- ---- whoever has the guest's disk
@@ -182,6 +216,9 @@ console_image pause stage budget old before after new output reply Receive is ot
     piece.image
 console_image pause stage budget old before after new output reply Transmit is other (inl (done, h)) =
     let piece : IsTransmitPiece stage budget progress.Done old before after new output = rw is at h in
+    piece.image
+console_image pause stage budget old before after new output reply (Further n q) is other (inl (done, h)) =
+    let piece : IsFurtherPiece n q stage budget progress.Done old before after new output = rw is at h in
     piece.image
 console_image pause stage budget old before after new output reply which is other (inr (lacks, (puts, h))) =
     h.image
@@ -218,6 +255,21 @@ hosted_write disk state window offset width value budget before after new output
 hosted_write disk state window offset width value budget before after new output reply (PutOut byte) is free
     h = h
 
+hosted_device : {A : Type 0} (disk : HostDisk) (n : ℕ) (what : FurtherEvent A) (state : SlotState) (budget : Budget)
+    (before after : Health) (new : SlotState) (output : List ℕ) (reply : Reply A)
+    → has_part (Some disk) (DeviceEvent n what) state ≡ false → (asks : Option Pause)
+    → device_asks n what state ≡ asks
+    → TurnsTo (λ c. MayGiveBy (Some disk) state (DeviceEvent n what) before after c) asks (DeviceEvent n what) budget
+    state before after new output (Answered reply)
+    → MayGiveBy (Some disk) state (DeviceEvent n what) before after (came new reply output)
+hosted_device disk n what state budget before after new output reply free None asks h = h
+hosted_device disk n what state budget before after new output reply free (Some pause) asks h =
+    let a = asking n what state pause asks in
+    by_passing disk state (DeviceEvent n what) before after (came new reply output) free
+    (console_image pause First budget (readied (DeviceEvent n what) state) before after new output reply
+    (Further n a.queue) (ap (λ (p : Pause). p.service) a.is) (λ e. cc) h)
+    (further_whole n what state pause budget before after new output reply asks h)
+
 hosted_whole : {A : Type 0} (disk : HostDisk) (what : EventKind A) (budget : Budget) (state : SlotState)
     (before after : Health) (new : SlotState) (output : List ℕ) (reply : Reply A)
     → has_part (Some disk) what state ≡ false
@@ -232,6 +284,8 @@ hosted_whole disk (Input bytes) budget state before after new output reply free 
     (console_image (record { service = Receive; taken = Some (fitting state.pending bytes) }) First budget
     (with_input bytes state) before after new output reply Receive refl (λ e. cc) h)
     (input_whole state bytes budget before after new output reply h)
+hosted_whole disk (DeviceEvent n what) budget state before after new output reply free h =
+    hosted_device disk n what state budget before after new output reply free (device_asks n what state) refl h
 hosted_whole disk _ budget state before after new output reply free h = h
 
 whole_by : {A : Type 0} (host : Option HostDisk) (part : Bool) (what : EventKind A) (budget : Budget)

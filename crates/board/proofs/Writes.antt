@@ -37,8 +37,6 @@ use Rattle.board.specs.declared.event.DeviceEvent.{DeviceEvent}
 use Rattle.board.specs.declared.event.DeviceEvent.TheVariants as event
 use Rattle.board.specs.Devices.{Alters, DoesIf, DoesTo, has_effect_at, waits_there}
 use Rattle.board.proofs.FurtherDevices.{of_device}
-use Rattle.mmio_window.specs.declared.action.Action.{Action}
-use Rattle.mmio_window.specs.declared.action.Action.TheVariants.{Notify}
 use Rattle.mmio_window.specs.Writing.{action_of, written}
 use Rattle.board.specs.declared.event.EventKind.{EventKind}
 use Rattle.board.specs.declared.event.EventKind.TheVariants.{Write, MemRead, MemWrite, Input, Restore}
@@ -228,6 +226,7 @@ module _ (K : Memory → Memory → Type 0) (left : IsLeftByWrites K) where
   finishes_left (Serve service.Transmit) state before after outcome h =
       notified_left _ 1 (queue_at 1 state.console) h.notified.ending state.memory outcome.state.memory
       state.console outcome.state.console _ _ h.notified.notified
+  finishes_left (Serve (service.Further n q)) state before after outcome h = absurd h
   finishes_left (PutOut byte) state before after outcome h = state_left state outcome _ h.alike refl
 
   -- what is done to a further device
@@ -269,9 +268,9 @@ module _ (K : Memory → Memory → Type 0) (left : IsLeftByWrites K) where
       told_queue_left said h.before.device h.before.on_hold (queue_of m d.window h.before)
       (queue_of n d'.window h.after) h.does.queue
 
-  does_left : (action : Action) (m n : Memory) (d d' : DeviceState) → device.Finishes action m n d d' → K m n
-  does_left (Notify q) m n d d' h = serves_left d.model q m n d.window d'.window d'.model h
-  does_left _ m n d d' h = same_left m n h.memory
+  notified_device_left : (q : Option ℕ) (m n : Memory) (d d' : DeviceState) → device.ServesNotified q m n d d' → K m n
+  notified_device_left (Some q) m n d d' h = serves_left d.model q m n d.window d'.window d'.model h
+  notified_device_left None m n d d' h = same_left m n h.0
 
   alters_left : {A : Type 0} (what : DeviceEvent A) (m n : Memory) (d d' : DeviceState) → Alters what m n d d'
       → K m n
@@ -297,12 +296,15 @@ module _ (K : Memory → Memory → Type 0) (left : IsLeftByWrites K) where
   at_left event.TakeSent i m n old new h =
       does_if_left (is_some (sent_by i old)) TakesSent i m n old new
       (λ d d' x. serves_left (without_sent d.model) 1 m n d.window d'.window d'.model x) h
+  at_left event.DropSent i m n old new h =
+      does_if_left (is_some (sent_by i old)) TakesSent i m n old new
+      (λ d d' x. serves_left (without_sent d.model) 1 m n d.window d'.window d'.model x) h
   at_left {A} (event.Read offset width) i m n old new h =
       alters_left {A = A} (event.Read offset width) m n h.before h.after h.changes
   at_left (event.Write offset width value) i m n old new h =
       does_if_left (not (waits_there i offset old)) (device.Writes offset width value) i m n old new
-      (λ d d' x. does_left (action_of offset width value d.window) m n
-      (record d { window = written offset width value m d.window }) d' x) h
+      (λ d d' x. notified_device_left (device.notified_by (action_of offset width value d.window)) m n
+      (device.device_written offset width value m d) d' x) h
   at_left (event.Host said) i m n old new h =
       does_if_left (unwrap_or (has_effect_at i said old) false) (Told said) i m n old new
       (λ d d' x. told_left said m n d d' x) h
@@ -346,6 +348,7 @@ module _ (K : Memory → Memory → Type 0) (left : IsLeftByWrites K) where
   cut_left (Serve service.Transmit) state before after outcome h =
       notified_left _ 1 (queue_at 1 state.console) _ state.memory outcome.state.memory state.console
       outcome.state.console _ _ h.notified
+  cut_left (Serve (service.Further n q)) state before after outcome h = absurd h
   cut_left (PutOut byte) state before after outcome h = state_left state outcome _ h.alike refl
 
   refused_left : {A : Type 0} (state : SlotState) (what : EventKind A) (before after : Health)

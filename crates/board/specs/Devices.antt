@@ -9,11 +9,14 @@ use Rattle.device_list.specs.declared.refusal.ReceiveRefusal.{ReceiveRefusal}
 use Rattle.device_list.specs.declared.refusal.ReceiveRefusal.TheVariants.{Frame}
 use Rattle.device_list.specs.declared.spec.DeviceSpec.{DeviceSpec}
 use Rattle.device_list.specs.Card.{receive_refusal}
-use Rattle.device_list.specs.Device.{DeviceState, Receives, Supplies, TakesSent, Told, Writes, fresh_device, linked, register_of, resized, supply_taken}
-use Rattle.device_list.specs.List.{At, IsRefusedFor, card_at, changed_at, disk_at, outgoing_at, refusal_of, sent_by, terminal_at, waits_at}
+use Rattle.device_list.specs.Device.{DeviceState, Receives, Supplies, TakesSent, Told, Writes, device_written, fresh_device, linked, received, register_of, resized, supplied, supply_taken, with_model}
+use Rattle.device_list.specs.Model.{without_sent}
+use Rattle.device_list.specs.List.{At, IsRefusedFor, card_at, changed_at, disk_at, notified_at, outgoing_at, refusal_of, sent_by, terminal_at, waits_at}
 use Rattle.hosted_disk.specs.Told.{has_effect}
 use Rattle.board.specs.declared.event.DeviceEvent.{DeviceEvent}
-use Rattle.board.specs.declared.event.DeviceEvent.TheVariants.{Plug, Read, Write, Supply, Receive, TakeSent, SetLink, Resize, Host}
+use Rattle.board.specs.declared.event.DeviceEvent.TheVariants.{Plug, Read, Write, Supply, Receive, TakeSent, DropSent, SetLink, Resize, Host}
+use Rattle.board.specs.declared.pause.Pause.{Pause}
+use Rattle.board.specs.declared.pause.Service.TheVariants.{Further}
 use Rattle.board.specs.declared.reply.Reply.{Reply}
 use Rattle.board.specs.declared.reply.Reply.TheVariants.{Value, Done, Bytes, Took, BadDevice, Busy, Idle, NoMemory}
 use Rattle.board.specs.Image.{Health}
@@ -36,16 +39,13 @@ received_reply frame None = Some (Took (length frame))
 received_reply frame (Some (Frame Full)) = Some (Took 0)
 received_reply frame (Some why) = None
 
--- whether anything waits that the driver of device n sent, if it sends anything
-abbrev pub has_sent : ℕ → List DeviceState → Option Bool
-has_sent n devices = option_map (λ sent. is_some sent) (outgoing_at n devices)
-
 -- what the host is answered that takes it: no bytes where nothing waits
 abbrev pub sent_reply : {A : Type 0} → ℕ → List DeviceState → Option (Reply A)
 sent_reply n devices = option_map (λ sent. Bytes (unwrap_or sent [])) (outgoing_at n devices)
 
-abbrev pub taken_reply : {A : Type 0} → ℕ → List DeviceState → Reply A
-taken_reply n devices = unwrap_or (sent_reply n devices) BadDevice
+-- what the host is answered that drops it: how many bytes they were
+abbrev pub dropped_reply : {A : Type 0} → ℕ → List DeviceState → Option (Reply A)
+dropped_reply n devices = option_map (λ sent. Took (length (unwrap_or sent []))) (outgoing_at n devices)
 
 -- what the host is answered that says this of a disk, if it is one: there is nothing to do, or it is done
 abbrev pub told_reply : {A : Type 0} → Bool → Reply A
@@ -73,6 +73,7 @@ abbrev pub reply_at : {A : Type 0} → ℕ → DeviceEvent A → SlotState → O
 reply_at n (Plug spec) state = if can_plug n spec state then Some Done else None
 reply_at n (Receive frame) state = received_reply frame (receive_refusal frame (card_at n state.devices))
 reply_at n TakeSent state = sent_reply n state.devices
+reply_at n DropSent state = dropped_reply n state.devices
 reply_at n (SetLink up) state = option_map (λ card. Done) (card_at n state.devices)
 reply_at n (Resize cols rows) state = option_map (λ terminal. Done) (terminal_at n state.devices)
 reply_at n (Host said) state = option_map told_reply (has_effect_at n said state.devices)
@@ -109,6 +110,7 @@ DoesTo (Resize cols rows) n m m' old new = AreSet (changed_at (resized cols rows
 DoesTo (Receive frame) n m m' old new =
     DoesIf (is_none (receive_refusal frame (card_at n old))) (Receives frame) n m m' old new
 DoesTo TakeSent n m m' old new = DoesIf (is_some (sent_by n old)) TakesSent n m m' old new
+DoesTo DropSent n m m' old new = DoesIf (is_some (sent_by n old)) TakesSent n m m' old new
 DoesTo (Write offset width value) n m m' old new =
     DoesIf (not (waits_there n offset old)) (Writes offset width value) n m m' old new
 DoesTo (Host said) n m m' old new =
@@ -137,6 +139,48 @@ abbrev pub GivesDevice : {A : Type 0} → ℕ → DeviceEvent A → SlotState �
 GivesDevice n what state before after outcome =
     GivesByDevice (reply_at n what state) n what state before after outcome
 
+-- ---- the service that it asks for
+
+-- device n serves its queue q, and the event is answered so many bytes at the end, if it handed in some
+abbrev pub further_service : ℕ → ℕ → Option ℕ → Pause
+further_service n q taken = record { service = Further n q; taken = taken }
+
+-- The service that what is done to device n asks for, if it does: of the queue that is notified, of that which waits for
+-- what its host hands in, or of that for which there is room again. Where the host is answered the bytes that it takes, the
+-- last one is served to its end.
+abbrev pub device_asks : {A : Type 0} → ℕ → DeviceEvent A → SlotState → Option Pause
+device_asks n (Write offset width value) state =
+    if waits_there n offset state.devices then None
+    else option_map (λ q. further_service n q None)
+    (option_and_then (notified_at offset width value) (slice_get state.devices n))
+device_asks n (Supply bytes) state =
+    option_map (λ taken. further_service n 0 (Some taken))
+    (option_and_then (supply_taken bytes) (slice_get state.devices n))
+device_asks n (Receive frame) state =
+    if is_none (receive_refusal frame (card_at n state.devices)) then Some (further_service n 0 (Some (length frame)))
+    else None
+device_asks n DropSent state =
+    option_map (λ sent. further_service n 1 (Some (length sent))) (sent_by n state.devices)
+device_asks n what state = None
+
+-- what asks for none, whatever the slot has
+abbrev pub IsAtOnce : {A : Type 0} → DeviceEvent A → Type 0
+IsAtOnce (Write offset width value) = ⊥
+IsAtOnce (Supply bytes) = ⊥
+IsAtOnce (Receive frame) = ⊥
+IsAtOnce DropSent = ⊥
+IsAtOnce what = ⊤
+
+-- the devices as that service finds them
+abbrev pub devices_readied : {A : Type 0} → ℕ → DeviceEvent A → Memory → List DeviceState → List DeviceState
+devices_readied n (Write offset width value) m devices = changed_at (device_written offset width value m) n devices
+devices_readied n (Supply bytes) m devices = changed_at (with_model (supplied bytes)) n devices
+devices_readied n (Receive frame) m devices = changed_at (with_model (received frame)) n devices
+devices_readied n DropSent m devices = changed_at (with_model without_sent) n devices
+devices_readied n what m devices = devices
+
+-- ---- what takes memory
+
 -- whether memory may be wanting for it: a device that is plugged in takes its own, and what is taken is copied
 abbrev pub TakesMemoryFor : {A : Type 0} → ℕ → DeviceEvent A → SlotState → Type 0
 TakesMemoryFor n (Plug spec) state = can_plug n spec state ≡ true
@@ -161,6 +205,7 @@ MayReplyDevice (Supply bytes) (Took taken) = ⊤
 MayReplyDevice (Receive frame) (Took taken) = ⊤
 MayReplyDevice TakeSent (Bytes frame) = ⊤
 MayReplyDevice TakeSent NoMemory = ⊤
+MayReplyDevice DropSent (Took taken) = ⊤
 MayReplyDevice (SetLink up) Done = ⊤
 MayReplyDevice (Resize cols rows) Done = ⊤
 MayReplyDevice (Write offset width value) Busy = ⊤

@@ -8,6 +8,7 @@ pub mod Flights
 pub mod Honest
 pub mod Durable
 pub mod Image
+pub mod InPlace
 pub mod Extent
 pub mod Slot
 pub mod Outcome

@@ -14,10 +14,11 @@ use Rattle.block_device.specs.Device.{block_device, exact_device}
 use Rattle.console_device.specs.Device.{receive, transmit, exact_transmit}
 use Rattle.console_device.specs.Input.{fitting}
 use Rattle.board.specs.declared.event.EventKind.{EventKind}
-use Rattle.board.specs.declared.event.EventKind.TheVariants.{Write, Input}
+use Rattle.device_list.specs.List.{DevicesServeTo}
+use Rattle.board.specs.declared.event.EventKind.TheVariants.{Write, Input, Device as DeviceEvent}
 use Rattle.board.specs.declared.pause.Pause.{Pause}
 use Rattle.board.specs.declared.pause.Service.{Service}
-use Rattle.board.specs.declared.pause.Service.TheVariants.{Block, Receive, Transmit}
+use Rattle.board.specs.declared.pause.Service.TheVariants.{Block, Receive, Transmit, Further}
 use Rattle.board.specs.declared.pause.Work.{Work}
 use Rattle.board.specs.declared.pause.Work.TheVariants.{Begin, Resume}
 use Rattle.board.specs.declared.pause.Turn.{Turn}
@@ -26,6 +27,7 @@ use Rattle.board.specs.declared.reply.Reply.{Reply}
 use Rattle.board.specs.declared.reply.Reply.TheVariants.{Done, Took, NoMemory}
 use Rattle.board.specs.Image.{Health, Tells, bytes_of, health_of, sectors_of, disk_with}
 use Rattle.board.specs.Backing.{HostDisk}
+use Rattle.board.specs.Devices.{device_asks}
 use Rattle.board.specs.Hosting.{has_part}
 use Rattle.board.specs.Machine.{block_irq, console_irq, task_at}
 pub use Rattle.board.specs.Machine.{readied}
@@ -88,6 +90,14 @@ pub record IsRefusedPiece (stage : Stage) (budget : Budget) (old : SlotState) (b
   pub is : new ≡ record old { memory = new.memory; console = new.console }
   pub image : after ≡ before
 
+-- A piece of a further device's service of a queue: the memory and the devices may change.
+pub record IsFurtherPiece (n q : ℕ) (stage : Stage) (budget : Budget) (progress : Progress) (old : SlotState)
+    (before after : Health) (new : SlotState) (output : List ℕ) : Type 0 where
+  pub served : DevicesServeTo stage budget progress n q old.memory new.memory old.devices new.devices
+  pub is : new ≡ record old { memory = new.memory; devices = new.devices }
+  pub image : after ≡ before
+  pub silent : output ≡ []
+
 abbrev pub IsPiece : Service → Stage → Budget → Progress → SlotState → Health → Health
     → SlotState → List ℕ → Type 0
 IsPiece Block stage budget progress old before after new output =
@@ -97,6 +107,8 @@ IsPiece Receive stage budget progress old before after new output =
     IsReceivePiece stage budget progress old before after new output
 IsPiece Transmit stage budget progress old before after new output =
     IsTransmitPiece stage budget progress old before after new output
+IsPiece (Further n q) stage budget progress old before after new output =
+    IsFurtherPiece n q stage budget progress old before after new output
 
 -- whether a budget has a limit: without one no service pauses
 abbrev pub HasLimit : Budget → Type 0
@@ -152,6 +164,7 @@ input_service pending bytes = record { service = Receive; taken = Some (fitting 
 abbrev pub asked_over_image : {A : Type 0} → EventKind A → SlotState → Option Pause
 asked_over_image (Write window offset width value) state = asked_by (task_at window offset width value state)
 asked_over_image (Input bytes) state = Some (input_service state.pending bytes)
+asked_over_image (DeviceEvent n what) state = device_asks n what state
 asked_over_image what state = None
 
 -- and of any guest: no service in which the host has a part pauses

@@ -1,14 +1,20 @@
 -- An event that leaves the image alone and puts nothing out.
-use Rattle.std.specs.Prelude.{◌≡◌, ◌≢◌, ℕ, List}
+use Rattle.std.specs.Prelude.{◌≡◌, ◌≢◌, ℕ, List, []}
 use Rattle.guest_memory.specs.Memory.{SameRange}
+use Rattle.chain.specs.declared.budget.Budget.{Budget}
+use Rattle.mmio_window.specs.declared.stage.Stage.{Stage}
 use Rattle.board.specs.declared.event.DeviceEvent.{DeviceEvent}
 use Rattle.board.specs.declared.event.EventKind.{EventKind}
 use Rattle.board.specs.declared.event.EventKind.TheVariants.{Device}
+use Rattle.board.specs.declared.pause.Pause.{Pause}
+use Rattle.board.specs.declared.pause.Turn.{Turn}
+use Rattle.board.specs.declared.pause.Turn.TheVariants.{Answered}
 use Rattle.board.specs.declared.reply.Reply.{Reply}
 use Rattle.board.specs.declared.reply.Reply.TheVariants.{BadRange, BadSlot, NoMemory}
 use Rattle.board.specs.Devices.{TakesMemoryFor}
 use Rattle.board.specs.Image.{Health, sectors_of}
 use Rattle.board.specs.Outcome.{replies}
+use Rattle.board.specs.Pausing.{Begins, BeginsOverImage, ComesTo, PausesByLimit}
 use Rattle.board.specs.Slot.{BoardSlot, state_of}
 use Rattle.board.specs.World.{MayGive, MayGiveOverImage}
 
@@ -38,3 +44,40 @@ pub record DoesToDevice {A : Type 0} (n : ℕ) (what : DeviceEvent A) (old new :
   pub there : reply ≢ BadSlot
   pub in_range : reply ≢ BadRange
   pub no_memory : reply ≡ NoMemory → (image : List ℕ) → TakesMemoryFor n what (state_of image old)
+
+-- A piece of a further device's service, as over an image. Of the slot only its devices change, and bytes of its memory.
+pub record ServesFurther {A : Type 0} (pause : Pause) (stage : Stage) (budget : Budget) (old new : BoardSlot) (turn : Turn A)
+    : Type 0 where
+  pub comes : (image : List ℕ) (health : Health) →
+      ComesTo pause stage budget (state_of image old) health health (state_of image new) [] turn
+  pub rest : new ≡ record old { memory = new.memory; devices = new.devices }
+  pub range : SameRange old.memory new.memory
+  pub limited : PausesByLimit budget turn
+  pub there : turn ≢ Answered BadSlot
+  pub in_range : turn ≢ Answered BadRange
+  pub answered : turn ≢ Answered NoMemory
+
+-- What a turn comes to in which this begins that is done to further device n of a slot, as over an image. Of the slot only
+-- its devices change, and bytes of its memory. Only what takes memory finds none.
+pub record BeginsAtDevice {A : Type 0} (n : ℕ) (what : DeviceEvent A) (budget : Budget) (old new : BoardSlot)
+    (turn : Turn A) : Type 0 where
+  pub begins : (image : List ℕ) (health : Health) →
+      BeginsOverImage (Device n what) budget (state_of image old) health health (state_of image new) [] turn
+  pub rest : new ≡ record old { memory = new.memory; devices = new.devices }
+  pub range : SameRange old.memory new.memory
+  pub limited : PausesByLimit budget turn
+  pub there : turn ≢ Answered BadSlot
+  pub in_range : turn ≢ Answered BadRange
+  pub no_memory : turn ≡ Answered NoMemory → (image : List ℕ) → TakesMemoryFor n what (state_of image old)
+
+-- An event begins so, whoever has the slot's disk, and for no want of memory. Where the disk lies stays, and no refusal is
+-- noted.
+pub record BeginsQuietly {A : Type 0} (old : BoardSlot) (what : EventKind A) (budget : Budget) (new : BoardSlot)
+    (turn : Turn A) : Type 0 where
+  pub begins : (image : List ℕ) (health : Health) →
+      Begins what budget (state_of image old) health health (state_of image new) [] turn
+  pub extent : new.extent ≡ old.extent
+  pub disturbed : new.disturbed ≡ old.disturbed
+  pub limited : PausesByLimit budget turn
+  pub there : turn ≢ Answered BadSlot
+  pub answered : turn ≢ Answered NoMemory

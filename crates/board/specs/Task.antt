@@ -93,11 +93,13 @@ IsTransmitService old before after outcome =
 abbrev pub puts_out : {A : Type 0} → ℕ → SlotState → Outcome A
 puts_out byte state = record { state = state; reply = Done; output = byte ∷ [] }
 
--- What comes of a task where memory is found and no call of the image fails.
+-- What comes of a task where memory is found and no call of the image fails. No write of the slot's own two windows leaves a
+-- further device's service to be done.
 abbrev pub Finishes : {A : Type 0} → Task → SlotState → Health → Health → Outcome A → Type 0
 Finishes Nothing state before after outcome = IsDetermined outcome (does state) before after
 Finishes (Serve service.Block) state before after outcome =
     IsBlockService (exact_device (device_of state)) state before after outcome
 Finishes (Serve service.Receive) state before after outcome = IsReceiveService state Done before after outcome
 Finishes (Serve service.Transmit) state before after outcome = IsTransmitService state before after outcome
+Finishes (Serve (service.Further n q)) state before after outcome = ⊥
 Finishes (PutOut byte) state before after outcome = IsDetermined outcome (puts_out byte state) before after

@@ -17,7 +17,7 @@ use Rattle.board.specs.declared.event.EventKind.TheVariants.{Read, Write, MemRea
 use Rattle.board.specs.declared.reply.Reply.{Reply}
 use Rattle.board.specs.declared.reply.Reply.TheVariants.{BadSlot, NoMemory}
 use Rattle.board.specs.declared.reply.Record.{Record}
-use Rattle.board.specs.declared.pause.Service.TheVariants.{Block, Receive, Transmit}
+use Rattle.board.specs.declared.pause.Service.TheVariants.{Block, Receive, Transmit, Further}
 use Rattle.board.specs.Backing.{HostDisk}
 use Rattle.board.specs.Devices.{IsUnmet, TakesMemoryFor}
 use Rattle.board.specs.Extent.{outside_of}
@@ -116,6 +116,7 @@ IsCutShort Nothing state old new outcome = ⊥
 IsCutShort (Serve Block) state old new outcome = IsFailedService state old new outcome
 IsCutShort (Serve Receive) state old new outcome = ⊥
 IsCutShort (Serve Transmit) state old new outcome = IsRefusedTransmit state old new outcome
+IsCutShort (Serve (Further n q)) state old new outcome = ⊥
 IsCutShort (PutOut byte) state old new outcome = IsDetermined outcome (replies state NoMemory) old new
 
 -- and how an event may be
@@ -244,6 +245,7 @@ TakesMemory Nothing state = ⊥
 TakesMemory (Serve Block) state = ⊥
 TakesMemory (Serve Receive) state = ⊥
 TakesMemory (Serve Transmit) state = HasBytesToPutOut state.memory state.console
+TakesMemory (Serve (Further n q)) state = ⊥
 TakesMemory (PutOut byte) state = ⊤
 
 -- The events that may find no memory: a read of some bytes inside the guest's memory, a device that is plugged

@@ -91,6 +91,9 @@ pub enum DeviceEvent<A: Allocator = Global> {
     /// The host takes what the driver sent: the oldest frame of a network card, or all output of a console. No bytes where
     /// nothing waits.
     TakeSent,
+    /// The host drops what the driver sent, since it has copied it: the oldest frame of a network card, or all output of a console.
+    /// It is answered how many bytes they were.
+    DropSent,
     /// A network card's link goes up or down (5.1.4).
     SetLink { up: bool },
     /// A console gets another size (5.3.4).

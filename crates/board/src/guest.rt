@@ -249,8 +249,8 @@ impl<A: Allocator + Copy> Guest<A> {
     {
         match pause.service {
             Service::Block => Turn::Answered(pause.reply()),
-            Service::Receive | Service::Transmit => {
-                self.slot.serve_console(pause, Stage::Next, budget, out)
+            Service::Receive | Service::Transmit | Service::Further { .. } => {
+                self.slot.serve_beside_disk(pause, Stage::Next, budget, out)
             }
         }
     }

@@ -6,7 +6,7 @@
 //! difference that another one caused.
 //!
 //! `board` is the board. `spec` says what it is made of, `check` and `fault` why one is refused;
-//! `event` is what comes in and `reply` what goes out, and `pause` what a turn of a slot is asked and comes to,
+//! `event` is what comes in, `in_place` an event whose bytes the caller has, and `reply` what goes out, and `pause` what a turn of a slot is asked and comes to,
 //! whose service may pause, and `task` what a write leaves to be done. `slot` serves one guest, its memory, its two windows
 //! and its two devices, and knows of no other; `counters` is what it counts of them,
 //! `opening` opens the slots of a board, and `lent` makes a slot's memory of a host's bytes. `laws` has what holds of every
@@ -21,6 +21,7 @@ mod event;
 mod fault;
 mod guest;
 mod host_disk;
+mod in_place;
 mod laws;
 mod lent;
 mod opening;
@@ -43,6 +44,7 @@ pub use device_list::{AddRefusal, DeviceSpec, HostedDisk, MOST_DEVICES, VirtioDe
 pub use event::{DeviceEvent, Event, EventKind, SlotWindow};
 pub use fault::{BoardFault, SlotFault};
 pub use guest_memory::{GuestMemory, MemoryFault, RegionSpec, Regions};
+pub use in_place::InPlace;
 pub use laws::{
     a_cut_event_touches_no_other_disk, a_disk_does_as_its_host_says, a_dropped_slot_never_waits,
     a_failed_event_keeps_the_rest, a_flight_outlasts_own_events, a_guest_alone_has_one_run,

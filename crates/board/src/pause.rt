@@ -17,13 +17,15 @@ pub enum Service {
     Receive,
     /// The console's transmitq (5.3.2).
     Transmit,
+    /// A queue of a further device.
+    Further { device: u8, queue: u16 },
 }
 
 /// A service that paused before a chain that is on offer. Its queue stands open.
 #[derive(Clone, Copy, Debug, PartialEq, Eq)]
 pub struct Pause {
     pub service: Service,
-    /// Where the event that it serves typed to the console: how many bytes were taken.
+    /// Where the event that it serves handed bytes to a device, typed ones, random ones or a frame: how many were taken.
     pub taken: Option<usize>,
 }
 

@@ -4,3 +4,5 @@ pub mod Lengths
 pub mod Outlets
 pub mod Telling
 pub mod Windows
+mod Writing
+mod Frames

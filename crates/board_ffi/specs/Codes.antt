@@ -21,6 +21,7 @@ use Rattle.session.specs.declared.refusal.Refusal.{Refusal}
 use Rattle.session.specs.declared.refusal.Refusal.TheVariants.{BadSlot, BadRange, BadDevice, NoRoom, Busy, Idle}
 use Rattle.session.specs.declared.progress.Progress.{Progress}
 use Rattle.session.specs.declared.progress.Progress.TheVariants.{Asks, Done, More}
+use Rattle.session.specs.declared.handed.Handed.{Handed}
 use Rattle.session.specs.declared.fault.SessionFault.{SessionFault}
 use Rattle.session.specs.declared.fault.SessionFault.TheVariants as session
 
@@ -72,6 +73,11 @@ progress_code Asks = 20
 abbrev pub went_on_code : Result Progress Refusal → ℕ
 went_on_code (Ok progress) = progress_code progress
 went_on_code (Err why) = refusal_code why
+
+-- and of one that hands bytes in
+abbrev pub handed_code : Result Handed Refusal → ℕ
+handed_code (Ok handed) = progress_code handed.progress
+handed_code (Err why) = refusal_code why
 
 -- an image of no bytes is none
 abbrev pub image_code : List ℕ → ℕ

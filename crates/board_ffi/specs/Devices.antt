@@ -1,15 +1,15 @@
 -- What the calls of a further device do to a board, and what they tell.
-use Rattle.std.specs.Prelude.{◌≡◌, ℕ, ◌<◌, ◌++◌, if◌then◌else◌, replicate, Bool, List, [], None, IsSomeAnd, drop, is_none, length, unwrap_or}
-use Rattle.board.specs.declared.event.DeviceEvent.TheVariants.{TakeSent}
+use Rattle.std.specs.Prelude.{◌≡◌, ◌⊎◌, ℕ, ◌<◌, ◌++◌, if◌then◌else◌, replicate, Bool, List, [], None, IsSomeAnd, drop, is_none, length, unwrap_or}
+use Rattle.board.specs.declared.event.DeviceEvent.TheVariants.{DropSent}
 use Rattle.board.specs.declared.event.EventKind.TheVariants.{Device}
-use Rattle.board.specs.declared.reply.Reply.TheVariants.{Bytes}
+use Rattle.board.specs.declared.reply.Reply.TheVariants.{Took}
 use Rattle.session.specs.declared.told.DeviceWaits.{DeviceWaits}
 use Rattle.session.specs.Devices.{device_waits_at, sent_at}
 use Rattle.session.specs.Pacing.{paused_at}
 use Rattle.session.specs.Session.{IsIdle, SessionState}
 use Rattle.board_ffi.specs.declared.devices.DevicePending.{DevicePending}
 use Rattle.board_ffi.specs.Codes.{code_at}
-use Rattle.board_ffi.specs.Events.{Takes}
+use Rattle.board_ffi.specs.Events.{PausesBehind, Takes}
 
 -- how many bytes are taken of a frame that is taken whole or not at all
 abbrev pub count_of : List ℕ → Bool → ℕ
@@ -35,10 +35,11 @@ pub record IsLonger (frame room into : List ℕ) (len : ℕ) : Type 0 where
   pub longer : length room < len
   pub kept : into ≡ room
 
--- What was sent is taken, stands at the front of the room, and this is its length.
+-- What was sent is dropped, and stands at the front of the room, and this is its length, also where the service pauses.
 pub record TakesFrame (slot device : ℕ) (room into : List ℕ) (len code : ℕ) (old new : SessionState) : Type 0 where
-  pub takes : Takes slot (Device device TakeSent) code (Bytes (frame_at slot device old)) old new
-  pub moved : code ≡ 0 → IsCopied (frame_at slot device old) room into len
+  pub takes : Takes slot (Device device DropSent) code (Took (length (frame_at slot device old))) old new
+  pub moved : (code ≡ 0) ⊎ (code ≡ 18) → IsCopied (frame_at slot device old) room into len
+  pub taken : code ≡ 18 → PausesBehind slot len old new
 
 -- What was sent is longer than the room, and this is its length. Nothing of the slot is paused, and nothing changes.
 pub record IsTooShort (slot device room len : ℕ) (old new : SessionState) : Type 0 where

@@ -102,7 +102,7 @@ pub record GoesOn (slot code : ℕ) (old new : SessionState) : Type 0 where
   pub went : WentOn Global old slot result new
   pub code_is : code ≡ went_on_code result
 
--- input pauses, of which so many bytes were taken
+-- the service pauses of what was handed in, of which so many bytes were taken
 abbrev pub PausesBehind : ℕ → ℕ → SessionState → SessionState → Type 0
 PausesBehind slot took old new = taken_at slot new ≡ Some took
 

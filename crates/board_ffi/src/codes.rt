@@ -4,7 +4,7 @@ ghost use Rattle.std.specs.Prelude.{◌≡◌, ◌≢◌, ◌↔◌, IfOk, IsErr
 ghost use Rattle.board.specs.declared.saved.RestoreRefusal.{RestoreRefusal};
 ghost use Rattle.board.specs.declared.saved.SaveRefusal.{SaveRefusal};
 ghost use Rattle.session.specs.declared.refusal.Refusal.{Refusal};
-ghost use Rattle.board_ffi.specs.Codes.{board_code, code_by, fault_code, is_saving, progress_code, refusal_code, restore_code, restore_fault_code, save_code, slot_fault_code, went_on_code};
+ghost use Rattle.board_ffi.specs.Codes.{board_code, code_by, fault_code, handed_code, is_saving, progress_code, refusal_code, restore_code, restore_fault_code, save_code, slot_fault_code, went_on_code};
 
 use c_values::of_memory_fault;
 pub(crate) use c_values::{
@@ -12,7 +12,7 @@ pub(crate) use c_values::{
     HAS_BOARD, IDLE, IO, MORE, NO_BOARD, NO_MEMORY, NO_ROOM,
 };
 use session::{
-    BoardFault, CacheFault, Progress, Refusal, RestoreFault, RestoreRefusal, SaveRefusal,
+    BoardFault, CacheFault, Handed, Progress, Refusal, RestoreFault, RestoreRefusal, SaveRefusal,
     SessionFault, SlotFault,
 };
 
@@ -90,6 +90,21 @@ pub(crate) fn of_served(answer: Result<Progress, Refusal>) -> u32
 {
     match answer {
         Ok(progress) => of_progress(progress),
+        Err(why) => of_refusal(why),
+    }
+}
+
+/// The number of a call that hands bytes to a device, and how many it took, also where its service pauses.
+pub(crate) fn handed(answer: Result<Handed, Refusal>, taken: &mut usize) -> u32
+    ensures number { result ≡ handed_code answer }
+    ensures taken { IfOk answer (λ handed. taken.new ≡ handed.taken) }
+    ensures kept { OnErr answer (taken.new ≡ taken.old) }
+{
+    match answer {
+        Ok(handed) => {
+            *taken = handed.taken;
+            of_progress(handed.progress)
+        }
         Err(why) => of_refusal(why),
     }
 }

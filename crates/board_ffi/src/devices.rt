@@ -2,7 +2,7 @@
 
 ghost use Rattle.std.specs.Prelude.{◌≡◌, ◌≢◌, length};
 ghost use Rattle.board.specs.declared.event.DeviceEvent.{DeviceEvent};
-ghost use Rattle.board_ffi.specs.Calls.{AtDevice, EventKind, HasDevicePending, IsNoDevice, IsTooShort, Reply, Takes, TakesFrame};
+ghost use Rattle.board_ffi.specs.Calls.{AtDevice, EventKind, HasDevicePending, IsNoDevice, IsTooShort, PausesBehind, Reply, Takes, TakesFrame};
 ghost use Rattle.board_ffi.specs.Devices.{count_of};
 
 use crate::answers::devices;
@@ -38,7 +38,9 @@ pub extern "C" fn kalyubos_supply(
 ) -> u32
     ensures step { AtDevice window board.old board.new result (λ device.
         Takes slot (EventKind.Device device (DeviceEvent.Supply bytes.now)) result (Reply.Took taken.new)) }
-    ensures kept { result ≢ 0 → taken.new ≡ taken.old }
+    ensures taken { result ≡ 18 → AtDevice window board.old board.new result (λ device.
+        PausesBehind slot taken.new) }
+    ensures kept { result ≢ 0 → result ≢ 18 → taken.new ≡ taken.old }
 {
     let Some(device) = device_numbered(window) else {
         return BAD_WINDOW;
@@ -58,7 +60,9 @@ pub extern "C" fn kalyubos_receive(
     ensures step { AtDevice window board.old board.new result (λ device.
         Takes slot (EventKind.Device device (DeviceEvent.Receive frame.now)) result
         (Reply.Took (count_of frame.now taken.new))) }
-    ensures kept { result ≢ 0 → taken.new ≡ taken.old }
+    ensures taken { result ≡ 18 → AtDevice window board.old board.new result (λ device.
+        PausesBehind slot (count_of frame.now taken.new)) }
+    ensures kept { result ≢ 0 → result ≢ 18 → taken.new ≡ taken.old }
 {
     let Some(device) = device_numbered(window) else {
         return BAD_WINDOW;
@@ -67,7 +71,8 @@ pub extern "C" fn kalyubos_receive(
 }
 
 /// Moves out what a device's driver sent, whole: the oldest frame of a network card, or all output of a console. Tells how many bytes
-/// it has: none where nothing waits. Where it finds no room it stays, and its length is told.
+/// it has: none where nothing waits. Where it finds no room it stays, and its length is told. What there is room for then is served:
+/// where that pauses the bytes are moved out all the same.
 #[unsafe(no_mangle)]
 pub extern "C" fn kalyubos_take_frame(
     board: &mut Handle,
@@ -80,8 +85,8 @@ pub extern "C" fn kalyubos_take_frame(
         TakesFrame slot device into.old into.new len.new result) }
     ensures short { result ≡ 26 → AtDevice window board.old board.new result (λ device.
         IsTooShort slot device (length into.old) len.new) }
-    ensures kept { result ≢ 0 → into.new ≡ into.old }
-    ensures kept_len { result ≢ 0 → result ≢ 26 → len.new ≡ len.old }
+    ensures kept { result ≢ 0 → result ≢ 18 → into.new ≡ into.old }
+    ensures kept_len { result ≢ 0 → result ≢ 18 → result ≢ 26 → len.new ≡ len.old }
 {
     let Some(device) = device_numbered(window) else {
         return BAD_WINDOW;

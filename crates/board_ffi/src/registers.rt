@@ -1,6 +1,6 @@
 //! A guest's reads and writes of its devices' registers, and the words that stand for its interrupt lines.
 
-ghost use Rattle.std.specs.Prelude.{◌≡◌, ◌≢◌, ◌≤◌};
+ghost use Rattle.std.specs.Prelude.{◌≡◌, ◌≢◌};
 ghost use Rattle.board_ffi.specs.Calls.{Calls, GoesOn, HasWords, IsMissing, IsUndisturbed, Reply, Takes, Tells, Writes, device_at, read_event, write_event};
 
 use crate::answers::{devices, registers};
@@ -32,8 +32,8 @@ pub extern "C" fn kalyubos_read(
     }
 }
 
-/// A guest's write of a register of one of its windows. What it notifies is served, of the disk and the console within the
-/// budget, and what then waits is told.
+/// A guest's write of a register of one of its windows. What it notifies is served within the budget, and what then waits is
+/// told.
 #[unsafe(no_mangle)]
 pub extern "C" fn kalyubos_write(
     board: &mut Handle,
@@ -46,8 +46,6 @@ pub extern "C" fn kalyubos_write(
 ) -> u32
     ensures step { Calls board.old.session board.new.session result
         (Writes slot (device_at window) (write_event window offset width value) result) }
-    // of a further device it never pauses
-    ensures at_once { 2 ≤ window → result ≢ 18 }
     ensures pending { Tells slot board.new.session pending.old pending.new }
 {
     let session = session_of!(board);

@@ -263,7 +263,7 @@ fn words_for(format: Format, number: u64) -> &'static str {
         (_, 2) => "the second line is the cache's, as \"cache 8\"",
         (Format::Plain(_), _) => "a line begins with slot, r, w, mr, mw, in or sz",
         (Format::Extended, _) =>
-            "a line begins with slot, r, w, mr, mw, in, sz, st, io, drop, hold, release, plug, dr, dw, supply, frame, take, link, dsz, dio, ddrop, dhold or drelease",
+            "a line begins with slot, r, w, mr, mw, in, sz, st, io, drop, hold, release, plug, dr, dw, supply, frame, take, dsent, link, dsz, dio, ddrop, dhold or drelease",
     }
 }
 

@@ -33,6 +33,7 @@ pub fn example_of(format: Format, word: Word, is_disk: bool) -> (&'static str, &
         Word::Supply => ("supply", "0 0 5f0b91c4"),
         Word::Receive => ("frame", "0 0 525400123456525400abcdef88b50102"),
         Word::TakeSent => ("take", "0 0"),
+        Word::DropSent => ("dsent", "0 0"),
         Word::SetLink => ("link", "0 0 up"),
         Word::DeviceResize => ("dsz", "0 0 50 19"),
         Word::DeviceComplete => ("dio", "0 0 0 done"),

@@ -360,8 +360,8 @@ static bool read_device_fields(const struct field *fields, size_t count, struct 
 {
     static const struct { const char *word; int kind; size_t count; } lines[] = {
         {"plug", PLUG, 4}, {"dr", DEVICE_READ, 5}, {"dw", DEVICE_WRITE, 6}, {"supply", SUPPLY, 4}, {"frame", RECEIVE, 4},
-        {"take", TAKE, 3}, {"link", SET_LINK, 4}, {"plug", PLUG, 8}, {"dsz", DEVICE_RESIZE, 5}, {"dio", DISK_COMPLETE, 5},
-        {"ddrop", DISK_DROP, 3}, {"dhold", DISK_HOLD, 3}, {"drelease", DISK_RELEASE, 3},
+        {"take", TAKE, 3}, {"dsent", DROP_SENT, 3}, {"link", SET_LINK, 4}, {"plug", PLUG, 8}, {"dsz", DEVICE_RESIZE, 5},
+        {"dio", DISK_COMPLETE, 5}, {"ddrop", DISK_DROP, 3}, {"dhold", DISK_HOLD, 3}, {"drelease", DISK_RELEASE, 3},
     };
     struct further_device device = {0};
     uint64_t value;
@@ -579,6 +579,11 @@ static bool reply_device(const struct further *further, const struct event *even
         append_word(record, "b:");
         append_bytes(record, frame, len);
         return true;
+    case DROP_SENT:
+        if (!further->take(event->guest, event->number, frame, sizeof frame, &len))
+            return false;
+        snprintf(word, sizeof word, "took:%zx", len);
+        break;
     case SET_LINK:
         if (!further->set_link(event->guest, event->number, event->up))
             return false;

@@ -20,7 +20,7 @@ struct trace {
 struct event {
     enum {
         READ, WRITE, MEMORY_READ, MEMORY_WRITE, INPUT, RESIZE, RESTORE, COMPLETE, DROP, HOLD, RELEASE,
-        PLUG, DEVICE_READ, DEVICE_WRITE, SUPPLY, RECEIVE, TAKE, SET_LINK, DEVICE_RESIZE, /* of a further device */
+        PLUG, DEVICE_READ, DEVICE_WRITE, SUPPLY, RECEIVE, TAKE, DROP_SENT, SET_LINK, DEVICE_RESIZE, /* of a further device */
         DISK_COMPLETE, DISK_DROP, DISK_HOLD, DISK_RELEASE
     } kind;
     bool failed;

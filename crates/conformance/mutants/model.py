@@ -1433,6 +1433,10 @@ def frame_taken(slot, number):
     return f"b:{spelled(device_of(slot, number, (Card, Console)).take())}"
 
 
+def sent_dropped(slot, number):
+    return f"took:{len(device_of(slot, number, (Card, Console)).take()):x}"
+
+
 def link_set(slot, number, link):
     device_of(slot, number, Card).set_link(link == "up")
     return "done"
@@ -1471,7 +1475,8 @@ def further_completed(disk, tag, verdict):
 REPLIES = {"r": read, "w": write, "mr": memory_read, "mw": memory_write, "in": typed, "sz": resized, "st": restored,
            "io": completed, "drop": dropped, "hold": held, "release": released, "plug": of_device(plugged),
            "dr": of_device(device_read), "dw": of_device(device_written), "supply": of_device(supplied),
-           "frame": of_device(frame_handed), "take": of_device(frame_taken), "link": of_device(link_set), "dsz": of_device(console_resized),
+           "frame": of_device(frame_handed), "take": of_device(frame_taken), "dsent": of_device(sent_dropped),
+           "link": of_device(link_set), "dsz": of_device(console_resized),
            "dio": of_disk(further_completed), "ddrop": of_disk(Disk.drop), "dhold": of_disk(Disk.hold),
            "drelease": of_disk(Disk.release)}
 

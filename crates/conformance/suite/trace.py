@@ -128,6 +128,9 @@ class Event:
     def say_take(self, device):
         return f"has a frame or output taken from its device {device}"
 
+    def say_dsent(self, device):
+        return f"has a frame or output of its device {device} dropped"
+
     def say_link(self, device, link):
         return f"has the link of its device {device} {link}"
 
@@ -164,8 +167,8 @@ def place(window, offset):
 
 
 COUNTS = {"r": 5, "w": 6, "mr": 4, "mw": 4, "in": 3, "sz": 4, "st": 3, "io": 4, "drop": 2, "hold": 2, "release": 2,
-          "plug": 4, "dr": 5, "dw": 6, "supply": 4, "frame": 4, "take": 3, "link": 4, "dsz": 5, "dio": 5, "ddrop": 3,
-          "dhold": 3, "drelease": 3}
+          "plug": 4, "dr": 5, "dw": 6, "supply": 4, "frame": 4, "take": 3, "dsent": 3, "link": 4, "dsz": 5, "dio": 5,
+          "ddrop": 3, "dhold": 3, "drelease": 3}
 # Of a plug of a disk.
 DISK_COUNT = 8
 
@@ -250,7 +253,7 @@ def features_in(event, reply, windows):
         return {"devices", "disks"}
     if event.word == "dsz" or plugs_console(event.fields):
         return {"devices", "consoles"}
-    if event.word in ("plug", "dr", "dw", "supply", "frame", "take", "link"):
+    if event.word in ("plug", "dr", "dw", "supply", "frame", "take", "dsent", "link"):
         return {"devices"}
     if event.word not in ("r", "w") or event.fields[2] not in WINDOWS:
         return set()

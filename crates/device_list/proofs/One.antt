@@ -4,13 +4,11 @@ use Rattle.std.specs.Prelude.{slice_set}
 use Rattle.guest_memory.specs.Memory.{Memory}
 use Rattle.chain.proofs.Servicing.{Decides, one_decided_service}
 use Rattle.chain.specs.Service.{Device, Ending, HasAtMostOneAnswer, Site}
-use Rattle.mmio_window.specs.declared.action.Action.{Action}
-use Rattle.mmio_window.specs.declared.action.Action.TheVariants.{ConfigWrite, Notify}
 use Rattle.mmio_window.specs.declared.queue.Queue.{Queue}
 use Rattle.mmio_window.specs.Queue.{queue_kind}
 use Rattle.mmio_window.specs.Serving.{IsNotified, NothingHappens, Notified}
 use Rattle.mmio_window.specs.Window.{WindowState, queue_at}
-use Rattle.mmio_window.specs.Writing.{action_of, written}
+use Rattle.mmio_window.specs.Writing.{action_of}
 use Rattle.mmio_window.proofs.OneEnd.{HasOneService, SameEnd, one_end}
 use Rattle.mmio_window.proofs.QueueKind.{has_at_most_one_chain}
 use Rattle.entropy_device.specs.Device.{entropy}
@@ -24,10 +22,10 @@ use Rattle.block_device.specs.declared.operation.HostEvent.{HostEvent}
 use Rattle.hosted_disk.specs.Disk.{HostedDisk, ServesDisk}
 use Rattle.hosted_disk.specs.Told.{DoesAsTold}
 use Rattle.hosted_disk.proofs.One.{serve_disk, tell_disk}
-use Rattle.device_list.specs.Card.{Card, ReceivesFrames, ServesCard, TransmitsFrames, card_limits, kept_behind, with_frame}
-use Rattle.device_list.specs.Device.{DeviceState, Finishes, IsConfigured, Receives, ServesAfter, Supplies, TakesSent, Told, Writes}
+use Rattle.device_list.specs.Card.{Card, ReceivesFrames, ServesCard, TransmitsFrames, card_limits, kept_behind}
+use Rattle.device_list.specs.Device.{DeviceState, Receives, ServesAfter, ServesNotified, Supplies, TakesSent, Told, Writes, device_written, notified_by, received, supplied}
 use Rattle.device_list.specs.List.{At}
-use Rattle.device_list.specs.Model.{ModelState, Entropy, Network as NetworkModel, Block as BlockModel, Console as ConsoleModel, Serves, ServesAs, supplied_model, with_card, without_sent}
+use Rattle.device_list.specs.Model.{ModelState, Entropy, Network as NetworkModel, Block as BlockModel, Console as ConsoleModel, Serves, ServesAs, without_sent}
 use Rattle.device_list.specs.Terminal.{ReceivesInput, ServesTerminal, Terminal, TransmitsOutput, terminal_limit}
 use Rattle.device_list.proofs.Cards.{receive_decides, transmit_decides}
 
@@ -148,24 +146,16 @@ serves_once (ConsoleModel terminal) q m n o u v w one other a b =
     as_once ConsoleModel (ServesTerminal terminal q m n u v) (ServesTerminal terminal q m o u w) n o v w one other
     (λ s t x y. terminal_once terminal q m n o u v w s t x y) a b
 
-configures_once : (offset value : ℕ) (m n o : Memory) (old one other : DeviceState)
-    → IsConfigured offset value m n old one → IsConfigured offset value m o old other
+notified_serves_once : (queue : Option ℕ) (m n o : Memory) (old one other : DeviceState)
+    → ServesNotified queue m n old one → ServesNotified queue m o old other
     → SameEnd n o one.window other.window one.model other.model
-configures_once offset value m n o old one other a b = record {
-  memory = a.memory ∙ sym b.memory;
-  window = ap (λ (d : DeviceState). d.window) (a.is ∙ sym b.is);
-  state = ap (λ (d : DeviceState). d.model) (a.is ∙ sym b.is);
-}
-
-finishes_once : (action : Action) (m n o : Memory) (old one other : DeviceState)
-    → Finishes action m n old one → Finishes action m o old other
-    → SameEnd n o one.window other.window one.model other.model
-finishes_once (Notify q) m n o old one other a b =
+notified_serves_once (Some q) m n o old one other a b =
     serves_once old.model q m n o old.window one.window other.window one.model other.model a b
-finishes_once (ConfigWrite offset width value) m n o old one other a b =
-    configures_once offset value m n o old one other a b
-finishes_once _ m n o old one other a b =
-    neither_happens m n o old.window one.window other.window old.model one.model other.model a b
+notified_serves_once None m n o old one other a b = record {
+  memory = a.0 ∙ sym b.0;
+  window = ap (λ (d : DeviceState). d.window) (a.1 ∙ sym b.1);
+  state = ap (λ (d : DeviceState). d.model) (a.1 ∙ sym b.1);
+}
 
 same_device : (m n : Memory) (one other : DeviceState)
     → SameEnd m n one.window other.window one.model other.model → one ≡ other
@@ -195,8 +185,8 @@ pub write_once : (offset width value : ℕ) (i : ℕ) (m n o : Memory) (old new 
     → (n ≡ o) × (new ≡ new')
 write_once offset width value =
     at_once (Writes offset width value) (λ m n o old one other a b.
-    finishes_once (action_of offset width value old.window) m n o
-    (record old { window = written offset width value m old.window }) one other a b)
+    notified_serves_once (notified_by (action_of offset width value old.window)) m n o
+    (device_written offset width value m old) one other a b)
 
 -- what the host changes decides it too
 after_once : (change : ModelState → ModelState) (q : ℕ) (i : ℕ) (m n o : Memory) (old new new' : List DeviceState)
@@ -208,11 +198,11 @@ after_once change q =
 
 pub supply_once : (bytes : List ℕ) (i : ℕ) (m n o : Memory) (old new new' : List DeviceState)
     → At (Supplies bytes) i m n old new → At (Supplies bytes) i m o old new' → (n ≡ o) × (new ≡ new')
-supply_once bytes = after_once (λ model. supplied_model model bytes) 0
+supply_once bytes = after_once (supplied bytes) 0
 
 pub reception_once : (frame : List ℕ) (i : ℕ) (m n o : Memory) (old new new' : List DeviceState)
     → At (Receives frame) i m n old new → At (Receives frame) i m o old new' → (n ≡ o) × (new ≡ new')
-reception_once frame = after_once (with_card (with_frame frame)) 0
+reception_once frame = after_once (received frame) 0
 
 pub taking_once : (i : ℕ) (m n o : Memory) (old new new' : List DeviceState) → At TakesSent i m n old new
     → At TakesSent i m o old new' → (n ≡ o) × (new ≡ new')

@@ -14,7 +14,7 @@ use Rattle.device_list.specs.List.{AreSoundDevices}
 use Rattle.hosted_disk.specs.Disk.{fresh_disk}
 use Rattle.hosted_disk.proofs.Flights.{idle_held, keeps_all, none_taken, still_held, written_held}
 use Rattle.device_list.specs.declared.spec.DeviceSpec.TheVariants as spec
-use Rattle.device_list.specs.Model.{ModelState, Block, Console, Entropy, Network, IsHeld, features_of, fresh_model, is_at_work, kind_of, must_wait}
+use Rattle.device_list.specs.Model.{ModelState, Block, Console, Entropy, Network, IsHeld, KeepsModel, features_of, fresh_model, is_at_work, kind_of, must_wait}
 
 -- a device that was sound is so with this window and this model
 pub made_sound : (m m' : Memory) (d : DeviceState) (w : WindowState) (model : ModelState) → IsSoundDevice m d
@@ -46,7 +46,7 @@ held_idle m w (Network card) idle = tt
 held_idle m w (Console terminal) idle = tt
 
 -- behind a write that doesn't wait
-pub held_written : (offset width value : ℕ) (m : Memory) (w : WindowState) (model : ModelState)
+held_written : (offset width value : ℕ) (m : Memory) (w : WindowState) (model : ModelState)
     → must_wait offset model ≡ false → IsHeld m w model → IsHeld m (written offset width value m w) model
 held_written offset width value m w (Block disk) free held = written_held offset width value m w disk free held
 held_written offset width value m w (Entropy pool) free held = tt
@@ -70,16 +70,18 @@ sound_over m m' d range sound = record {
 }
 
 -- a write that doesn't wait leaves a device's window its device's
-pub written_sound : (m m' : Memory) (d : DeviceState) (offset width value : ℕ) (u w : WindowState)
-    (model : ModelState) → u ≡ written offset width value m d.window → IsSoundDevice m d
-    → w.kind ≡ u.kind → w.negotiation.offered ≡ u.negotiation.offered
-    → kind_of model ≡ kind_of d.model → features_of model ≡ features_of d.model → IsSound m' w → IsHeld m' w model
-    → IsSoundDevice m' (record { window = w; model = model })
-written_sound m m' d offset width value u w model is sound kind offered same_kind same_features here held =
-    let keeps = KeepsDevice-written offset width value m d.window in
-    let now = subst (λ (v : WindowState). KeepsDevice d.window v) (sym is) keeps in
-    made_sound m m' d w model sound (kind ∙ now.kind) (offered ∙ now.offered) (sym same_kind)
-    (sym same_features) here held
+pub written_sound : (m : Memory) (d : DeviceState) (offset width value : ℕ) (w : WindowState) (model : ModelState)
+    → w ≡ written offset width value m d.window → must_wait offset d.model ≡ false → KeepsModel d.model model
+    → (IsSound m d.window → IsSound m w) → IsSoundDevice m d
+    → IsSoundDevice m (record { window = w; model = model })
+written_sound m d offset width value w model is free keeps stays sound =
+    let same = subst (λ (v : WindowState). KeepsDevice d.window v) (sym is)
+    (KeepsDevice-written offset width value m d.window) in
+    made_sound m m d w model sound same.kind same.offered (sym keeps.kind) (sym keeps.features) (stays sound.window)
+    (keeps.held m w (rw is (held_written offset width value m d.window d.model free sound.held)))
+
+pub keeps_itself : (model : ModelState) → KeepsModel model model
+keeps_itself model = record { kind = refl; features = refl; held = λ m w held. held }
 
 -- ---- each of them
 

@@ -1,69 +1,69 @@
--- A console's services: each is one of the whole queue, and its window stays its device's.
-use Rattle.std.proofs.Common.{◌≡◌, ℕ, zero, suc, arith, None, Some, Option, Result, List, refl, ap, subst}
-use Rattle.std.specs.Prelude.{IfOk, OnErr}
+-- A console's pieces of a service, and its window stays its device's.
+use Rattle.std.proofs.Common.{◌≡◌, ℕ, zero, suc, Some, Option, List, refl, ap, subst}
 use Rattle.guest_memory.specs.Memory.{Memory}
 use Rattle.chain.specs.declared.budget.Budget.{Budget}
 use Rattle.chain.specs.declared.budget.Progress.{Progress}
-use Rattle.mmio_window.specs.declared.stage.Stage.TheVariants.{First}
+use Rattle.chain.specs.declared.budget.Progress.TheVariants.{Done}
+use Rattle.mmio_window.specs.declared.stage.Stage.{Stage}
 use Rattle.mmio_window.specs.Pieces.{IsRefusedAt, ServesTo}
-use Rattle.mmio_window.specs.Serving.{IsNotified}
 use Rattle.mmio_window.specs.Window.{WindowState, queue_at}
-use Rattle.mmio_window.proofs.Devices.{KeepsDevice}
-use Rattle.mmio_window.proofs.Leaving.{whole}
-use Rattle.console_device.specs.declared.no_memory.NoMemory.{NoMemory}
+use Rattle.mmio_window.proofs.Devices.{KeepsDevice, KeepsDevice-served}
 use Rattle.console_device.specs.Console.{Console}
 use Rattle.console_device.specs.Device.{receive, transmit_fitting, transmit_within}
-use Rattle.device_list.specs.Terminal.{ReceivesInput, ServesTerminal, Terminal, TransmitsOutput, terminal_limit}
-use Rattle.device_list.proofs.Services.{IsFitting, nothing_keeps, notified_keeps, serves_all}
+use Rattle.device_list.specs.Terminal.{ReceivesInputTo, Terminal, TerminalServesTo, TransmitsOutputTo, terminal_limit}
+use Rattle.device_list.proofs.Services.{IsFitting, ends_refused, nothing_keeps, piece_fits}
 
 transmit_fits : (limit : Option ℕ) → IsFitting (transmit_fitting limit) (transmit_within limit)
 transmit_fits limit =
     record { takes = λ s. refl; gives = λ s readable w g h. h; never = λ s readable w lacks. lacks }
 
-module _ (terminal : Terminal) (after : Console) (budget : Budget) (m m' : Memory) (w w' : WindowState)
-    (chains : budget.chains ≡ None) (bytes : budget.bytes ≡ None) where
-  pub receives : (progress : Progress) → after ≡ record terminal.console { pending = after.pending }
-      → ServesTo First receive budget 0 (queue_at 0 w) progress m m' w w' terminal.console.pending after.pending
-      → ReceivesInput terminal m m' w w' (record terminal { console = after })
-  receives progress rest served = record {
+module _ (terminal : Terminal) (after : Console) (stage : Stage) (budget : Budget) (progress : Progress)
+    (m m' : Memory) (w w' : WindowState) where
+  pub receives : after ≡ record terminal.console { pending = after.pending }
+      → ServesTo stage receive budget 0 (queue_at 0 w) progress m m' w w' terminal.console.pending after.pending
+      → ReceivesInputTo stage budget progress terminal m m' w w' (record terminal { console = after })
+  receives rest served = record {
     left = after.pending;
-    notified = whole receive budget 0 (queue_at 0 w) progress m m' w w' terminal.console.pending after.pending
-        chains bytes served;
-    is = ap with_console rest;
+    served = served;
+    is = ap (λ (c : Console). record terminal { console = c }) rest;
   }
-    where
-      with_console : Console → Terminal
-      with_console c = record terminal { console = c }
 
-  module _ (out : List ℕ) (limit : ℕ) where
-    abbrev IsSent : ℕ → Type 0
-    IsSent l = IsNotified (transmit_within (Some l)) 1 (queue_at 1 w) m m' w w' terminal.waiting out
-
-    pub transmits : (result : Result Progress NoMemory) → after ≡ terminal.console → limit ≡ terminal_limit
-        → IfOk result (λ progress. ServesTo First (transmit_fitting (Some limit)) budget 1 (queue_at 1 w) progress m m'
-        w w' terminal.waiting out)
-        → OnErr result (IsRefusedAt First (transmit_within (Some limit)) budget 1 (queue_at 1 w) m m' w w'
-        terminal.waiting out)
-        → TransmitsOutput terminal m m' w w' (record { console = after; waiting = out })
-    transmits result same is goes stops = record {
+  module _ (out : List ℕ) (limit : ℕ) (same : after ≡ terminal.console) (is : limit ≡ terminal_limit) where
+    sends : ServesTo stage (transmit_within (Some limit)) budget 1 (queue_at 1 w) progress m m' w w' terminal.waiting
+        out
+        → TransmitsOutputTo stage budget progress terminal m m' w w' (record { console = after; waiting = out })
+    sends served = record {
       out = out;
-      notified = subst IsSent is (serves_all (transmit_fitting (Some limit)) (transmit_within (Some limit))
-          (transmit_fits (Some limit)) budget 1 (queue_at 1 w) m m' w w' terminal.waiting out chains bytes result goes
-          stops);
-      is = ap with_console same;
+      served = subst (λ (l : ℕ). ServesTo stage (transmit_within (Some l)) budget 1 (queue_at 1 w) progress m m' w w'
+          terminal.waiting out) is served;
+      is = ap (λ (c : Console). record { console = c; waiting = out }) same;
     }
-      where
-        with_console : Console → Terminal
-        with_console c = record { console = c; waiting = out }
+
+    pub transmits : ServesTo stage (transmit_fitting (Some limit)) budget 1 (queue_at 1 w) progress m m' w w'
+        terminal.waiting out
+        → TransmitsOutputTo stage budget progress terminal m m' w w' (record { console = after; waiting = out })
+    transmits served =
+        sends (piece_fits (transmit_fitting (Some limit)) (transmit_within (Some limit)) (transmit_fits (Some limit))
+        budget 1 m m' w w' terminal.waiting out stage (queue_at 1 w) progress served)
+
+    -- where there is no room for the bytes of the chain on offer
+    pub leaves_chain : progress ≡ Done → IsRefusedAt stage (transmit_within (Some limit)) budget 1 (queue_at 1 w) m m'
+        w w' terminal.waiting out
+        → TransmitsOutputTo stage budget progress terminal m m' w w' (record { console = after; waiting = out })
+    leaves_chain done refused =
+        sends (rw done (ends_refused (transmit_within (Some limit)) budget 1 m m' w w' terminal.waiting out stage
+        (queue_at 1 w) refused))
 
 -- ---- its window
 
-pub terminal_keeps : (terminal terminal' : Terminal) (q : ℕ) (m m' : Memory) (w w' : WindowState)
-    → ServesTerminal terminal q m m' w w' terminal' → KeepsDevice w w'
-terminal_keeps terminal terminal' zero m m' w w' h =
-    notified_keeps receive 0 (omega arith) (queue_at 0 w) h.notified.ending m m' w w' terminal.console.pending h.left
-    h.notified.notified
-terminal_keeps terminal terminal' (suc zero) m m' w w' h =
-    notified_keeps (transmit_within (Some terminal_limit)) 1 (omega arith) (queue_at 1 w) h.notified.ending m m' w w'
-    terminal.waiting h.out h.notified.notified
-terminal_keeps terminal terminal' (suc (suc q)) m m' w w' h = nothing_keeps m m' w w' terminal terminal' h
+pub terminal_keeps : (stage : Stage) (budget : Budget) (progress : Progress) (terminal terminal' : Terminal) (q : ℕ)
+    (m m' : Memory) (w w' : WindowState)
+    → TerminalServesTo stage budget progress terminal q m m' w w' terminal' → KeepsDevice w w'
+terminal_keeps stage budget progress terminal terminal' zero m m' w w' h =
+    KeepsDevice-served receive budget 0 stage (queue_at 0 w) progress m m' w w' terminal.console.pending h.left
+    h.served
+terminal_keeps stage budget progress terminal terminal' (suc zero) m m' w w' h =
+    KeepsDevice-served (transmit_within (Some terminal_limit)) budget 1 stage (queue_at 1 w) progress m m' w w'
+    terminal.waiting h.out h.served
+terminal_keeps stage budget progress terminal terminal' (suc (suc q)) m m' w w' h =
+    nothing_keeps m m' w w' terminal terminal' h.1

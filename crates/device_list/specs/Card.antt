@@ -3,13 +3,19 @@ use Rattle.std.specs.Prelude.{◌≡◌, ℕ, zero, suc, ◌==◌, ◌&&◌, Boo
 use Rattle.std.specs.List.{slice_get}
 use Rattle.std.specs.Option.{option_map}
 use Rattle.guest_memory.specs.Memory.{Memory}
+use Rattle.chain.specs.declared.budget.Budget.{Budget}
+use Rattle.chain.specs.declared.budget.Progress.{Progress}
+use Rattle.chain.specs.declared.budget.Progress.TheVariants.{Done}
 use Rattle.chain.specs.Service.{Ending, Refused}
+use Rattle.mmio_window.specs.declared.stage.Stage.{Stage}
 use Rattle.mmio_window.specs.Offering.{is_offered}
+use Rattle.mmio_window.specs.Pieces.{ServesTo}
 use Rattle.mmio_window.specs.Serving.{IsNotified, NothingHappens, Notified}
 use Rattle.mmio_window.specs.Window.{WindowState, queue_at}
 use Rattle.network_device.specs.declared.limits.Limits.{Limits}
 use Rattle.network_device.specs.Device.{Passing, emptied, passing, receive, transmit}
 use Rattle.network_device.specs.Network.{Network, refusal}
+use Rattle.network_device.specs.Receiving.{ReceivesTo}
 use Rattle.device_list.specs.declared.refusal.ReceiveRefusal.{ReceiveRefusal}
 use Rattle.device_list.specs.declared.refusal.ReceiveRefusal.TheVariants.{NoDevice, Frame}
 
@@ -91,6 +97,32 @@ abbrev pub ServesCard : Card → ℕ → Memory → Memory → WindowState → W
 ServesCard card zero m m' w w' card' = ReceivesFrames card m m' w w' card'
 ServesCard card (suc zero) m m' w w' card' = TransmitsFrames card m m' w w' card'
 ServesCard card (suc (suc q)) m m' w w' card' = NothingHappens m m' w w' card card'
+
+-- ---- their pieces
+
+-- A piece of a service of the receive queue: waiting frames go into the chains on offer, and more of it may be to come.
+pub record ReceivesFramesTo (stage : Stage) (budget : Budget) (progress : Progress) (card : Card) (m m' : Memory)
+    (w w' : WindowState) (card' : Card) : Type 0 where
+  pub left : Passing
+  pub served : ReceivesTo stage budget (queue_at 0 w) progress m m' w w' card.network.waiting left
+  pub is : card' ≡ record card { network = record card.network { waiting = left } }
+
+-- and one of the transmit queue
+pub record TransmitsFramesTo (stage : Stage) (budget : Budget) (progress : Progress) (card : Card) (m m' : Memory)
+    (w w' : WindowState) (card' : Card) : Type 0 where
+  pub out : Passing
+  pub served : ServesTo stage (transmit card_limits) budget 1 (queue_at 1 w) progress m m' w w'
+      (passing card.sent card.network.dropped) out
+  pub is : card' ≡ record { network = record card.network { dropped = out.dropped }; sent = out.frames }
+
+abbrev pub CardServesTo : Stage → Budget → Progress → Card → ℕ → Memory → Memory → WindowState → WindowState → Card
+    → Type 0
+CardServesTo stage budget progress card zero m m' w w' card' =
+    ReceivesFramesTo stage budget progress card m m' w w' card'
+CardServesTo stage budget progress card (suc zero) m m' w w' card' =
+    TransmitsFramesTo stage budget progress card m m' w w' card'
+CardServesTo stage budget progress card (suc (suc q)) m m' w w' card' = (progress ≡ Done)
+    × NothingHappens m m' w w' card card'
 
 -- whether a chain is on offer in the receive queue and no frame waits for it
 abbrev pub is_card_starving : Card → Memory → WindowState → Bool

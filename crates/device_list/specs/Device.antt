@@ -1,10 +1,12 @@
 -- A device with its window, and what its driver and its host do to it.
-use Rattle.std.specs.Prelude.{◌≡◌, ℕ, Bool, Option, List}
+use Rattle.std.specs.Prelude.{◌≡◌, ℕ, Bool, Option, Some, None, List}
 use Rattle.guest_memory.specs.Memory.{Memory}
+use Rattle.chain.specs.declared.budget.Budget.{Budget}
+use Rattle.chain.specs.declared.budget.Progress.{Progress}
+use Rattle.mmio_window.specs.declared.stage.Stage.{Stage}
 use Rattle.mmio_window.specs.declared.action.Action.{Action}
 use Rattle.mmio_window.specs.declared.action.Action.TheVariants.{ConfigWrite, Notify}
 use Rattle.mmio_window.specs.Reading.{read_value}
-use Rattle.mmio_window.specs.Serving.{NothingHappens}
 use Rattle.mmio_window.specs.Soundness.{IsSound}
 use Rattle.mmio_window.specs.Window.{WindowState, fresh_window, with_config_changed}
 use Rattle.mmio_window.specs.Writing.{action_of, written}
@@ -13,7 +15,7 @@ use Rattle.device_list.specs.Card.{with_frame, with_link}
 use Rattle.block_device.specs.declared.operation.HostEvent.{HostEvent}
 use Rattle.hosted_disk.specs.Disk.{HostedDisk}
 use Rattle.hosted_disk.specs.Told.{DoesAsTold}
-use Rattle.device_list.specs.Model.{ModelState, Block, IsHeld, Serves, config_of, configured, features_of, fresh_model, kind_of, supplied_model, taken_of, with_card, with_terminal, without_sent}
+use Rattle.device_list.specs.Model.{ModelState, Block, IsHeld, ModelServesTo, Serves, config_of, configured, features_of, fresh_model, kind_of, supplied_model, taken_of, with_card, with_terminal, without_sent}
 use Rattle.device_list.specs.Terminal.{with_size}
 
 -- a device: its window, and what stands behind it
@@ -44,23 +46,41 @@ register_of offset width d = read_value offset width (config_of d.model) d.windo
 abbrev pub ServesDevice : ℕ → Memory → Memory → DeviceState → DeviceState → Type 0
 ServesDevice q m m' d d' = Serves d.model q m m' d.window d'.window d'.model
 
--- its configuration is written: that leaves its window and the memory alone
-pub record IsConfigured (offset value : ℕ) (m m' : Memory) (d d' : DeviceState) : Type 0 where
-  pub memory : m' ≡ m
-  pub is : d' ≡ record d { model = configured offset value d.model }
+-- or a piece of that
+abbrev pub DeviceServesTo : Stage → Budget → Progress → ℕ → Memory → Memory → DeviceState → DeviceState → Type 0
+DeviceServesTo stage budget progress q m m' d d' =
+    ModelServesTo stage budget progress d.model q m m' d.window d'.window d'.model
 
--- what a write of its window leaves to be done: a queue that is notified is served, the device takes a write to its
--- configuration, and nothing else is done
-abbrev pub Finishes : Action → Memory → Memory → DeviceState → DeviceState → Type 0
-Finishes (Notify q) m m' d d' = ServesDevice q m m' d d'
-Finishes (ConfigWrite offset width value) m m' d d' = IsConfigured offset value m m' d d'
-Finishes action m m' d d' = NothingHappens m m' d.window d'.window d.model d'.model
+-- the queue that a write of its window notifies, if it does
+abbrev pub notified_by : Action → Option ℕ
+notified_by (Notify q) = Some q
+notified_by action = None
+
+-- what stands behind its window, which takes a write to its configuration
+abbrev pub taking : Action → ModelState → ModelState
+taking (ConfigWrite offset width value) model = configured offset value model
+taking action model = model
+
+-- the device once its registers were written
+abbrev pub device_written : ℕ → ℕ → ℕ → Memory → DeviceState → DeviceState
+device_written offset width value m d = record {
+  window = written offset width value m d.window;
+  model = taking (action_of offset width value d.window) d.model;
+}
+
+-- a device of which this queue was notified, if one was, serves that
+abbrev pub ServesNotified : Option ℕ → Memory → Memory → DeviceState → DeviceState → Type 0
+ServesNotified (Some q) m m' d d' = ServesDevice q m m' d d'
+ServesNotified None m m' d d' = (m' ≡ m) × (d' ≡ d)
 
 -- A driver writes to the window: its registers are written, and then the device does its part.
 abbrev pub Writes : ℕ → ℕ → ℕ → Memory → Memory → DeviceState → DeviceState → Type 0
 Writes offset width value m m' d d' =
-    Finishes (action_of offset width value d.window) m m'
-    (record d { window = written offset width value m d.window }) d'
+    ServesNotified (notified_by (action_of offset width value d.window)) m m' (device_written offset width value m d) d'
+
+-- the device where its host changed so what stands behind the window
+abbrev pub with_model : (ModelState → ModelState) → DeviceState → DeviceState
+with_model change d = record d { model = change d.model }
 
 -- how many of these bytes the device takes, if it takes any
 abbrev pub supply_taken : List ℕ → DeviceState → Option ℕ
@@ -68,15 +88,21 @@ supply_taken bytes d = taken_of d.model bytes
 
 -- The host changes the model so, and the device then serves its queue of this number.
 abbrev pub ServesAfter : (ModelState → ModelState) → ℕ → Memory → Memory → DeviceState → DeviceState → Type 0
-ServesAfter change q m m' d d' = ServesDevice q m m' (record d { model = change d.model }) d'
+ServesAfter change q m m' d d' = ServesDevice q m m' (with_model change d) d'
 
 -- The host supplies these bytes: the device takes those that fit, and then serves its queue 0.
+abbrev pub supplied : List ℕ → ModelState → ModelState
+supplied bytes model = supplied_model model bytes
+
 abbrev pub Supplies : List ℕ → Memory → Memory → DeviceState → DeviceState → Type 0
-Supplies bytes = ServesAfter (λ model. supplied_model model bytes) 0
+Supplies bytes = ServesAfter (supplied bytes) 0
 
 -- The host hands in a frame: it waits in the card, which then serves its receive queue (5.1.2).
+abbrev pub received : List ℕ → ModelState → ModelState
+received frame = with_card (with_frame frame)
+
 abbrev pub Receives : List ℕ → Memory → Memory → DeviceState → DeviceState → Type 0
-Receives frame = ServesAfter (with_card (with_frame frame)) 0
+Receives frame = ServesAfter (received frame) 0
 
 -- The host takes what the driver sent: the device then serves its transmit queue, since it has room.
 abbrev pub TakesSent : Memory → Memory → DeviceState → DeviceState → Type 0

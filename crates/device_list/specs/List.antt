@@ -3,13 +3,18 @@ use Rattle.std.specs.Prelude.{◌≡◌, ℕ, All, Bool, true, nat_le, if◌then
 use Rattle.std.specs.List.{list_any, slice_get}
 use Rattle.std.specs.Option.{option_and_then, option_map_or}
 use Rattle.guest_memory.specs.Memory.{Memory}
+use Rattle.chain.specs.declared.budget.Budget.{Budget}
+use Rattle.chain.specs.declared.budget.Progress.{Progress}
+use Rattle.chain.specs.declared.budget.Progress.TheVariants.{Done}
+use Rattle.mmio_window.specs.declared.stage.Stage.{Stage}
+use Rattle.mmio_window.specs.Writing.{action_of}
 use Rattle.device_list.specs.declared.spec.AddRefusal.{AddRefusal}
 use Rattle.device_list.specs.declared.spec.AddRefusal.TheVariants.{TooMany, BadMtu, BadDisk, NoMemory}
 use Rattle.device_list.specs.declared.refusal.WriteRefusal.{WriteRefusal}
 use Rattle.device_list.specs.declared.refusal.WriteRefusal.TheVariants.{NoDevice, Busy}
 use Rattle.device_list.specs.declared.spec.DeviceSpec.{DeviceSpec}
 use Rattle.device_list.specs.Card.{Card}
-use Rattle.device_list.specs.Device.{DeviceState, IsSoundDevice}
+use Rattle.device_list.specs.Device.{DeviceServesTo, DeviceState, IsSoundDevice, notified_by}
 use Rattle.hosted_disk.specs.Disk.{HostedDisk}
 use Rattle.device_list.specs.Model.{card_of, disk_of, has_bad_disk, has_bad_mtu, is_at_work, is_starving, must_wait, outgoing_of, terminal_of}
 use Rattle.device_list.specs.Terminal.{Terminal}
@@ -30,6 +35,23 @@ pub record At (Changes : Memory → Memory → DeviceState → DeviceState → T
 -- the devices with that of this number changed so, if there is one
 abbrev pub changed_at : (DeviceState → DeviceState) → ℕ → List DeviceState → List DeviceState
 changed_at change n devices = option_map_or (λ d. slice_set devices n (change d)) (slice_get devices n) devices
+
+-- The device isn't there: nothing is served.
+pub record IsNoneServed (progress : Progress) (m m' : Memory) (old new : List DeviceState) : Type 0 where
+  pub done : progress ≡ Done
+  pub memory : m' ≡ m
+  pub devices : new ≡ old
+
+abbrev pub ServesAny : Option DeviceState → Stage → Budget → Progress → ℕ → ℕ → Memory → Memory → List DeviceState
+    → List DeviceState → Type 0
+ServesAny None stage budget progress n q m m' old new = IsNoneServed progress m m' old new
+ServesAny (Some d) stage budget progress n q m m' old new = At (DeviceServesTo stage budget progress q) n m m' old new
+
+-- A piece of device n's service of its queue q, within a budget, and whether more is to come.
+abbrev pub DevicesServeTo : Stage → Budget → Progress → ℕ → ℕ → Memory → Memory → List DeviceState
+    → List DeviceState → Type 0
+DevicesServeTo stage budget progress n q m m' old new =
+    ServesAny (slice_get old n) stage budget progress n q m m' old new
 
 -- the network card of this number, if there is one
 abbrev pub card_at : ℕ → List DeviceState → Option Card
@@ -55,6 +77,10 @@ disk_at n devices = option_and_then (λ d. disk_of d.model) (slice_get devices n
 -- whether a write at this offset of the device's window waits for what is in flight
 abbrev pub waits_at : ℕ → DeviceState → Bool
 waits_at offset d = must_wait offset d.model
+
+-- the queue that a write of a device's window notifies, if it does
+abbrev pub notified_at : ℕ → ℕ → ℕ → DeviceState → Option ℕ
+notified_at offset width value d = notified_by (action_of offset width value d.window)
 
 -- Why a write isn't done to it: there is no such device, or the write waits.
 abbrev pub IsWriteRefusal : ℕ → Option DeviceState → WriteRefusal → Type 0

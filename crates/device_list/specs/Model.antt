@@ -2,8 +2,13 @@
 use Rattle.std.specs.Prelude.{◌≡◌, ◌+◌, ◌^◌, ◌==◌, ◌||◌, ⊤, ℕ, zero, suc, nat_le, nat_lt, Bool, false, Option, Some, None, List, [], replicate}
 use Rattle.std.specs.Option.{option_and_then}
 use Rattle.guest_memory.specs.Memory.{Memory}
+use Rattle.chain.specs.declared.budget.Budget.{Budget}
+use Rattle.chain.specs.declared.budget.Progress.{Progress}
+use Rattle.chain.specs.declared.budget.Progress.TheVariants.{Done}
 use Rattle.mmio_window.specs.declared.device_kind.DeviceKind.{DeviceKind}
 use Rattle.mmio_window.specs.declared.device_kind.DeviceKind.TheVariants as kind
+use Rattle.mmio_window.specs.declared.stage.Stage.{Stage}
+use Rattle.mmio_window.specs.Pieces.{ServesTo}
 use Rattle.mmio_window.specs.Serving.{IsNotified, NothingHappens}
 use Rattle.mmio_window.specs.Window.{WindowState, queue_at}
 use Rattle.negotiation.specs.Features.{device_features}
@@ -21,8 +26,8 @@ use Rattle.device_list.specs.declared.model.DeviceModel.{DeviceModel}
 use Rattle.device_list.specs.declared.model.DeviceModel.TheVariants as model
 use Rattle.device_list.specs.declared.spec.DeviceSpec.{DeviceSpec}
 use Rattle.device_list.specs.declared.spec.DeviceSpec.TheVariants as spec
-use Rattle.device_list.specs.Card.{Card, ServesCard, fresh_card, is_card_starving, oldest_of, without_oldest}
-use Rattle.device_list.specs.Terminal.{Terminal, ServesTerminal, fresh_terminal, is_terminal_starving, output_of, terminal_configured, with_typed, without_output}
+use Rattle.device_list.specs.Card.{Card, CardServesTo, ServesCard, fresh_card, is_card_starving, oldest_of, without_oldest}
+use Rattle.device_list.specs.Terminal.{Terminal, TerminalServesTo, ServesTerminal, fresh_terminal, is_terminal_starving, output_of, terminal_configured, with_typed, without_output}
 
 -- an entropy device with its pool, a network card, a disk that the host serves, or a console
 pub data ModelState : Type 0 where
@@ -95,6 +100,28 @@ Serves (Entropy pool) (suc q) m m' w w' model' = NothingHappens m m' w w' (Entro
 Serves (Network card) q m m' w w' model' = ServesAs Network (ServesCard card q m m' w w') model'
 Serves (Block disk) q m m' w w' model' = ServesAs Block (ServesDisk disk q m m' w w') model'
 Serves (Console terminal) q m m' w w' model' = ServesAs Console (ServesTerminal terminal q m m' w w') model'
+
+-- a piece of the filling of chains
+pub record FillsChainsTo (stage : Stage) (budget : Budget) (progress : Progress) (pool : List ℕ) (m m' : Memory)
+    (w w' : WindowState) (model' : ModelState) : Type 0 where
+  pub left : List ℕ
+  pub served : ServesTo stage entropy budget 0 (queue_at 0 w) progress m m' w w' pool left
+  pub is : model' ≡ Entropy left
+
+-- A piece of a device's service of its queue of this number, within a budget, and whether more is to come. A look of a
+-- disk that the host serves is never cut.
+abbrev pub ModelServesTo : Stage → Budget → Progress → ModelState → ℕ → Memory → Memory → WindowState → WindowState
+    → ModelState → Type 0
+ModelServesTo stage budget progress (Entropy pool) zero m m' w w' model' =
+    FillsChainsTo stage budget progress pool m m' w w' model'
+ModelServesTo stage budget progress (Entropy pool) (suc q) m m' w w' model' = (progress ≡ Done)
+    × NothingHappens m m' w w' (Entropy pool) model'
+ModelServesTo stage budget progress (Network card) q m m' w w' model' =
+    ServesAs Network (CardServesTo stage budget progress card q m m' w w') model'
+ModelServesTo stage budget progress (Block disk) q m m' w w' model' = (progress ≡ Done)
+    × ServesAs Block (ServesDisk disk q m m' w w') model'
+ModelServesTo stage budget progress (Console terminal) q m m' w w' model' =
+    ServesAs Console (TerminalServesTo stage budget progress terminal q m m' w w') model'
 
 -- The device once this value was written at this offset of its window's configuration: a console may take it.
 abbrev pub configured : ℕ → ℕ → ModelState → ModelState

@@ -1,7 +1,12 @@
 -- A console among the further devices (5.3): a console device, and the output that its host hasn't taken.
 use Rattle.std.specs.Prelude.{◌≡◌, ◌%◌, ◌^◌, ◌==◌, ◌&&◌, ℕ, zero, suc, nat_lt, if◌then◌else◌, Bool, Option, Some, None, List, [], ◌∷◌, ◌++◌, length, take}
 use Rattle.guest_memory.specs.Memory.{Memory}
+use Rattle.chain.specs.declared.budget.Budget.{Budget}
+use Rattle.chain.specs.declared.budget.Progress.{Progress}
+use Rattle.chain.specs.declared.budget.Progress.TheVariants.{Done}
+use Rattle.mmio_window.specs.declared.stage.Stage.{Stage}
 use Rattle.mmio_window.specs.Offering.{is_offered}
+use Rattle.mmio_window.specs.Pieces.{ServesTo}
 use Rattle.mmio_window.specs.Serving.{IsNotified, NothingHappens}
 use Rattle.mmio_window.specs.Window.{WindowState, queue_at}
 use Rattle.console_device.specs.Config.{emergency_write}
@@ -81,6 +86,32 @@ abbrev pub ServesTerminal : Terminal → ℕ → Memory → Memory → WindowSta
 ServesTerminal terminal zero m m' w w' terminal' = ReceivesInput terminal m m' w w' terminal'
 ServesTerminal terminal (suc zero) m m' w w' terminal' = TransmitsOutput terminal m m' w w' terminal'
 ServesTerminal terminal (suc (suc q)) m m' w w' terminal' = NothingHappens m m' w w' terminal terminal'
+
+-- ---- their pieces
+
+-- A piece of a service of the receive queue: pending input goes into the chains on offer, and more of it may be to come.
+pub record ReceivesInputTo (stage : Stage) (budget : Budget) (progress : Progress) (terminal : Terminal) (m m' : Memory)
+    (w w' : WindowState) (terminal' : Terminal) : Type 0 where
+  pub left : List ℕ
+  pub served : ServesTo stage receive budget 0 (queue_at 0 w) progress m m' w w' terminal.console.pending left
+  pub is : terminal' ≡ record terminal { console = record terminal.console { pending = left } }
+
+-- and one of the transmit queue
+pub record TransmitsOutputTo (stage : Stage) (budget : Budget) (progress : Progress) (terminal : Terminal)
+    (m m' : Memory) (w w' : WindowState) (terminal' : Terminal) : Type 0 where
+  pub out : List ℕ
+  pub served : ServesTo stage (transmit_within (Some terminal_limit)) budget 1 (queue_at 1 w) progress m m' w w'
+      terminal.waiting out
+  pub is : terminal' ≡ record terminal { waiting = out }
+
+abbrev pub TerminalServesTo : Stage → Budget → Progress → Terminal → ℕ → Memory → Memory → WindowState → WindowState
+    → Terminal → Type 0
+TerminalServesTo stage budget progress terminal zero m m' w w' terminal' =
+    ReceivesInputTo stage budget progress terminal m m' w w' terminal'
+TerminalServesTo stage budget progress terminal (suc zero) m m' w w' terminal' =
+    TransmitsOutputTo stage budget progress terminal m m' w w' terminal'
+TerminalServesTo stage budget progress terminal (suc (suc q)) m m' w w' terminal' = (progress ≡ Done)
+    × NothingHappens m m' w w' terminal terminal'
 
 -- whether a chain is on offer in the receive queue and no input is pending for it
 abbrev pub is_terminal_starving : Terminal → Memory → WindowState → Bool

@@ -6,14 +6,14 @@ ghost use Rattle.guest_memory.specs.Memory.{SameRange};
 ghost use Rattle.mmio_window.specs.Soundness.{IsSound};
 ghost use Rattle.network_device.specs.Config.{config_of};
 ghost use Rattle.network_device.specs.Network.{refusal};
-ghost use Rattle.device_list.specs.Card.{ServesCard, fresh_card, is_card_starving, oldest_of, with_frame, with_link, without_oldest};
+ghost use Rattle.device_list.specs.Card.{CardServesTo, fresh_card, is_card_starving, oldest_of, with_frame, with_link, without_oldest};
 
-use chain::{Budget, Chain};
+use chain::{Budget, Chain, Progress};
 use guest_memory::GuestMemory;
 use mmio_window::{CONFIGURATION_LEN, Stage, Window};
 use network_device::{
-    FrameRefusal, FrameStore, Limits, NetworkConfiguration, NetworkDevice, NoMemory, RECEIVEQ,
-    TRANSMITQ,
+    FrameRefusal, FrameStore, Limits, NetworkConfiguration, NetworkDevice, NoMemory, NoRoom,
+    RECEIVEQ, TRANSMITQ,
 };
 use std::alloc::{Allocator, Global};
 use std::marker::Model;
@@ -109,37 +109,37 @@ impl<A: Allocator> NetworkCard<A> {
         self.network.set_link(up);
     }
 
-    /// Serves the queue of this number in its window: the frames that wait go to the driver, and those that
+    /// Serves a piece of the queue of this number in its window: the frames that wait go to the driver, and those that
     /// the driver sent are taken while there is room. `room` is where the chains stand, one after another.
     pub(crate) fn serve<M: Allocator>(
         &mut self,
         q: u16,
         mem: &mut GuestMemory<M>,
         window: &mut Window,
+        stage: Stage,
+        budget: Budget,
         room: &mut Chain,
-    )
+    ) -> Progress
         requires sound { IsSound mem.old window.old }
-        ensures serves { ServesCard self.old q mem.old mem.new window.old window.new self.new }
+        ensures serves { CardServesTo stage budget result self.old q mem.old mem.new window.old window.new self.new }
         ensures range { SameRange mem.old mem.new }
         ensures sound { IsSound mem.new window.new }
     {
         match q {
-            RECEIVEQ => {
-                let _ = self
-                    .network
-                    .serve_receive_piece(mem, window, Stage::First, Budget::UNLIMITED, room);
-            }
+            RECEIVEQ => self
+                .network
+                .serve_receive_piece(mem, window, stage, budget, room),
             TRANSMITQ => {
-                let _ = self.network.serve_transmit_piece(
-                    mem,
-                    window,
-                    &mut self.sent,
-                    Stage::First,
-                    Budget::UNLIMITED,
-                    room,
-                );
+                let out = &mut self.sent;
+                match self
+                    .network
+                    .serve_transmit_piece(mem, window, out, stage, budget, room)
+                {
+                    Ok(progress) => progress,
+                    Err(NoRoom) => Progress::Done,
+                }
             }
-            _ => (),
+            _ => Progress::Done,
         }
     }
 

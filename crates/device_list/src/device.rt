@@ -1,20 +1,22 @@
 //! A device: its register window, and what stands behind it.
 
-ghost use Rattle.std.specs.Prelude.{◌≡◌, false, not, IfOk};
-ghost use Rattle.std.specs.Bool.{OnTrue, OnFalse};
+ghost use Rattle.std.specs.Prelude.{◌≡◌, false, true, IfErr, IfOk, OnErr, OnOk};
 ghost use Rattle.guest_memory.specs.Memory.{SameRange};
 ghost use Rattle.mmio_window.specs.Interrupts.{interrupt_bits};
-ghost use Rattle.device_list.specs.Device.{DeviceState, IsSoundDevice, Writes, fresh_device, register_of};
+ghost use Rattle.device_list.specs.Device.{DeviceServesTo, DeviceState, IsSoundDevice, device_written, fresh_device, register_of};
+ghost use Rattle.device_list.specs.declared.refusal.WriteRefusal.{WriteRefusal};
+ghost use Rattle.device_list.specs.List.{notified_at};
 ghost use Rattle.device_list.specs.Model.{has_bad_disk, has_bad_mtu, must_wait, state_of};
 
 mod host;
 mod saved;
 
 use crate::model::DeviceModel;
+use crate::refusal::WriteRefusal;
 use crate::spec::DeviceSpec;
-use chain::Chain;
+use chain::{Budget, Chain, Progress};
 use guest_memory::GuestMemory;
-use mmio_window::{Action, Window};
+use mmio_window::{Action, Stage, Window};
 use network_device::NoMemory;
 use std::alloc::{Allocator, Global};
 use std::marker::Model;
@@ -79,32 +81,52 @@ impl<A: Allocator> VirtioDevice<A> {
         self.window.read(offset, width, &self.model.config())
     }
 
-    /// Writes its window's registers, and does what the write leaves to be done. False where the write waits for what is in flight
-    /// of a disk: nothing has changed then.
+    /// Writes its window's registers, and takes what is written to its configuration. Answers the queue that is notified, which
+    /// is to be served next. A write that waits for what is in flight of a disk is refused: nothing has changed then.
     pub(crate) fn write<M: Allocator>(
         &mut self,
         offset: u16,
         width: u8,
         value: u32,
+        mem: &GuestMemory<M>,
+    ) -> Result<Option<u16>, WriteRefusal>
+        requires sound { IsSoundDevice mem.now self.old }
+        ensures free { OnOk result (must_wait offset self.old.model ≡ false) }
+        ensures notified { IfOk result (λ q. q ≡ notified_at offset width value self.old) }
+        ensures written { OnOk result (self.new ≡ device_written offset width value mem.now self.old) }
+        ensures waits { OnErr result (must_wait offset self.old.model ≡ true) }
+        ensures refused { IfErr result (λ why. why ≡ WriteRefusal.Busy) }
+        ensures kept { OnErr result (self.new ≡ self.old) }
+        ensures sound { IsSoundDevice mem.now self.new }
+    {
+        if self.model.must_wait(offset) {
+            return Err(WriteRefusal::Busy);
+        }
+        match self.window.write(offset, width, value, mem) {
+            Action::Notify(q) => Ok(Some(q)),
+            Action::ConfigWrite { offset, value, .. } => {
+                self.model.configure(offset, value);
+                Ok(None)
+            }
+            Action::Reset | Action::None => Ok(None),
+        }
+    }
+
+    /// Serves a piece of its queue of this number, within the budget.
+    pub(crate) fn serve<M: Allocator>(
+        &mut self,
+        q: u16,
         mem: &mut GuestMemory<M>,
+        stage: Stage,
+        budget: Budget,
         room: &mut Chain,
-    ) -> bool
+    ) -> Progress
         requires sound { IsSoundDevice mem.old self.old }
-        ensures waits { result ≡ not (must_wait offset self.old.model) }
-        ensures writes { OnTrue result (Writes offset width value mem.old mem.new self.old self.new) }
-        ensures kept { OnFalse result (self.new ≡ self.old) }
-        ensures unwritten { OnFalse result (mem.new ≡ mem.old) }
+        ensures serves { DeviceServesTo stage budget result q mem.old mem.new self.old self.new }
         ensures range { SameRange mem.old mem.new }
         ensures sound { IsSoundDevice mem.new self.new }
     {
-        if self.model.must_wait(offset) {
-            return false;
-        }
-        match self.window.write(offset, width, value, mem) {
-            Action::Notify(q) => self.model.serve(q, mem, &mut self.window, room),
-            Action::ConfigWrite { offset, value, .. } => self.model.configure(offset, value),
-            Action::Reset | Action::None => (),
-        }
-        true
+        self.model
+            .serve(q, mem, &mut self.window, stage, budget, room)
     }
 }

@@ -4,8 +4,8 @@ ghost use Rattle.std.specs.Prelude.{◌≡◌, ◌++◌, ◌∷◌, [], false, l
 ghost use Rattle.std.specs.List.{slice_get};
 ghost use Rattle.std.specs.Option.{option_map};
 ghost use Rattle.guest_memory.specs.Memory.{Memory, SameRange};
-ghost use Rattle.device_list.specs.Device.{Writes, fresh_device, register_of};
-ghost use Rattle.device_list.specs.List.{AreSoundDevices, At, IsRefusedFor, IsWriteRefusal, refusal_of, waits_at};
+ghost use Rattle.device_list.specs.Device.{device_written, fresh_device, register_of};
+ghost use Rattle.device_list.specs.List.{AreSoundDevices, DevicesServeTo, IsRefusedFor, IsWriteRefusal, changed_at, notified_at, refusal_of, waits_at};
 
 mod host;
 mod saved;
@@ -13,8 +13,9 @@ mod saved;
 use crate::device::VirtioDevice;
 use crate::refusal::WriteRefusal;
 use crate::spec::{AddRefusal, DeviceSpec, MOST_DEVICES};
-use chain::Chain;
+use chain::{Budget, Chain, Progress};
 use guest_memory::GuestMemory;
+use mmio_window::Stage;
 use std::alloc::{Allocator, Global};
 use std::marker::Model;
 
@@ -98,33 +99,50 @@ impl<A: Allocator> DeviceList<A> {
         Some(found.read(offset, width))
     }
 
-    /// Writes a device's window, and has the device do what the write leaves to be done: a queue that is notified is served.
-    /// What is refused changes nothing. `room` is where the chains stand, one after another.
+    /// Writes a device's window, and answers the queue that is notified, which is to be served next. What is refused changes
+    /// nothing.
     pub fn write<M: Allocator>(
         &mut self,
         device: u8,
         offset: u16,
         width: u8,
         value: u32,
-        mem: &mut GuestMemory<M>,
-        room: &mut Chain,
-    ) -> Result<(), WriteRefusal>
-        requires sound { AreSoundDevices mem.old self.old }
-        ensures there { OnOk result (At (Writes offset width value) device mem.old mem.new self.old self.new) }
+        mem: &GuestMemory<M>,
+    ) -> Result<Option<u16>, WriteRefusal>
+        requires sound { AreSoundDevices mem.now self.old }
+        ensures notified { IfOk result (λ q. Some q ≡ option_map (notified_at offset width value) (slice_get self.old device)) }
+        ensures written { OnOk result (self.new ≡ changed_at (device_written offset width value mem.now) device self.old) }
         ensures waits { OnOk result (option_map (waits_at offset) (slice_get self.old device) ≡ Some false) }
         ensures refused { IfErr result (IsWriteRefusal offset (slice_get self.old device)) }
         ensures kept { OnErr result (self.new ≡ self.old) }
-        ensures unwritten { OnErr result (mem.new ≡ mem.old) }
-        ensures range { SameRange mem.old mem.new }
-        ensures sound { AreSoundDevices mem.new self.new }
+        ensures sound { AreSoundDevices mem.now self.new }
     {
         let Some(found) = self.devices.get_mut(usize::from(device)) else {
             return Err(WriteRefusal::NoDevice);
         };
-        if found.write(offset, width, value, mem, room) {
-            Ok(())
-        } else {
-            Err(WriteRefusal::Busy)
+        found.write(offset, width, value, mem)
+    }
+
+    /// Serves a piece of a device's queue, within the budget. Of a device that isn't there nothing is served, and of a disk that the
+    /// host serves a look is never cut. In a pause the queue stands open, and its device's window is left alone. `room` is where
+    /// the chains stand, one after another.
+    pub fn serve<M: Allocator>(
+        &mut self,
+        device: u8,
+        queue: u16,
+        mem: &mut GuestMemory<M>,
+        stage: Stage,
+        budget: Budget,
+        room: &mut Chain,
+    ) -> Progress
+        requires sound { AreSoundDevices mem.old self.old }
+        ensures serves { DevicesServeTo stage budget result device queue mem.old mem.new self.old self.new }
+        ensures range { SameRange mem.old mem.new }
+        ensures sound { AreSoundDevices mem.new self.new }
+    {
+        match self.devices.get_mut(usize::from(device)) {
+            Some(found) => found.serve(queue, mem, stage, budget, room),
+            None => Progress::Done,
         }
     }
 }

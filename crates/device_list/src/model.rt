@@ -4,7 +4,7 @@ ghost use Rattle.std.specs.Prelude.{◌≡◌, false, IfOk};
 ghost use Rattle.guest_memory.specs.Memory.{SameRange};
 ghost use Rattle.mmio_window.specs.Soundness.{IsSound};
 ghost use Rattle.negotiation.specs.Features.{feature_bits};
-ghost use Rattle.device_list.specs.Model.{IsHeld, KeepsModel, Serves, config_of, configured, features_of, fresh_model, has_bad_disk, has_bad_mtu, kind_of, must_wait, state_of};
+ghost use Rattle.device_list.specs.Model.{IsHeld, KeepsModel, ModelServesTo, config_of, configured, features_of, fresh_model, has_bad_disk, has_bad_mtu, kind_of, must_wait, state_of};
 
 mod host;
 mod saved;
@@ -12,7 +12,7 @@ mod saved;
 use crate::card::NetworkCard;
 use crate::spec::DeviceSpec;
 use crate::terminal::Terminal;
-use chain::{Budget, Chain};
+use chain::{Budget, Chain, Progress};
 use entropy_device::{EntropyDevice, REQUESTQ};
 use guest_memory::GuestMemory;
 use hosted_disk::HostedDisk;
@@ -122,17 +122,20 @@ impl<A: Allocator> DeviceModel<A> {
         }
     }
 
-    /// Serves the queue of this number in its window. `room` is where the chains stand, one after another.
+    /// Serves a piece of the queue of this number in its window, within the budget. A look of a disk is never cut. `room` is where
+    /// the chains stand, one after another.
     pub(crate) fn serve<M: Allocator>(
         &mut self,
         q: u16,
         mem: &mut GuestMemory<M>,
         window: &mut Window,
+        stage: Stage,
+        budget: Budget,
         room: &mut Chain,
-    )
+    ) -> Progress
         requires sound { IsSound mem.old window.old }
         requires held { IsHeld mem.old window.old (state_of self.old) }
-        ensures serves { Serves (state_of self.old) q mem.old mem.new window.old window.new (state_of self.new) }
+        ensures serves { ModelServesTo stage budget result (state_of self.old) q mem.old mem.new window.old window.new (state_of self.new) }
         ensures kind { window.new.kind ≡ window.old.kind }
         ensures offered { window.new.negotiation.offered ≡ window.old.negotiation.offered }
         ensures same_kind { kind_of (state_of self.new) ≡ kind_of (state_of self.old) }
@@ -143,12 +146,17 @@ impl<A: Allocator> DeviceModel<A> {
     {
         match (self, q) {
             (DeviceModel::Entropy(entropy), REQUESTQ) => {
-                let _ = entropy.serve_piece(mem, window, Stage::First, Budget::UNLIMITED, room);
+                entropy.serve_piece(mem, window, stage, budget, room)
             }
-            (DeviceModel::Entropy(_), _) => (),
-            (DeviceModel::Network(card), _) => card.serve(q, mem, window, room),
-            (DeviceModel::Block(disk), _) => disk.serve(q, mem, window, room),
-            (DeviceModel::Console(terminal), _) => terminal.serve(q, mem, window, room),
+            (DeviceModel::Entropy(_), _) => Progress::Done,
+            (DeviceModel::Network(card), _) => card.serve(q, mem, window, stage, budget, room),
+            (DeviceModel::Block(disk), _) => {
+                disk.serve(q, mem, window, room);
+                Progress::Done
+            }
+            (DeviceModel::Console(terminal), _) => {
+                terminal.serve(q, mem, window, stage, budget, room)
+            }
         }
     }
 }

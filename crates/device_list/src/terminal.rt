@@ -7,9 +7,9 @@ ghost use Rattle.mmio_window.specs.Soundness.{IsSound};
 ghost use Rattle.negotiation.specs.Features.{feature_bits};
 ghost use Rattle.console_device.specs.Config.{config_of, console_features};
 ghost use Rattle.console_device.specs.Input.{fitting};
-ghost use Rattle.device_list.specs.Terminal.{ServesTerminal, fresh_terminal, is_terminal_starving, output_of, terminal_configured, with_emergency, with_size, with_typed, without_output};
+ghost use Rattle.device_list.specs.Terminal.{TerminalServesTo, fresh_terminal, is_terminal_starving, output_of, terminal_configured, with_emergency, with_size, with_typed, without_output};
 
-use chain::{Budget, Chain};
+use chain::{Budget, Chain, Progress};
 use console_device::{ConsoleDevice, EMERGENCY_WRITE, RECEIVEQ, TRANSMITQ};
 use guest_memory::GuestMemory;
 use mmio_window::{CONFIGURATION_LEN, Stage, Window};
@@ -129,37 +129,37 @@ impl<A: Allocator> Terminal<A> {
         let _ = self.console.emergency(byte, &mut self.output);
     }
 
-    /// Serves the queue of this number in its window: pending input goes to the driver, and the bytes that
+    /// Serves a piece of the queue of this number in its window: pending input goes to the driver, and the bytes that
     /// the driver sent are taken while there is room. `room` is where the chains stand, one after another.
     pub(crate) fn serve<M: Allocator>(
         &mut self,
         q: u16,
         mem: &mut GuestMemory<M>,
         window: &mut Window,
+        stage: Stage,
+        budget: Budget,
         room: &mut Chain,
-    )
+    ) -> Progress
         requires sound { IsSound mem.old window.old }
-        ensures serves { ServesTerminal self.old q mem.old mem.new window.old window.new self.new }
+        ensures serves { TerminalServesTo stage budget result self.old q mem.old mem.new window.old window.new self.new }
         ensures range { SameRange mem.old mem.new }
         ensures sound { IsSound mem.new window.new }
     {
         match q {
-            RECEIVEQ => {
-                let _ = self
-                    .console
-                    .serve_receive_piece(mem, window, Stage::First, Budget::UNLIMITED, room);
-            }
+            RECEIVEQ => self
+                .console
+                .serve_receive_piece(mem, window, stage, budget, room),
             TRANSMITQ => {
-                let _ = self.console.serve_transmit_piece(
-                    mem,
-                    window,
-                    &mut self.output,
-                    Stage::First,
-                    Budget::UNLIMITED,
-                    room,
-                );
+                let out = &mut self.output;
+                match self
+                    .console
+                    .serve_transmit_piece(mem, window, out, stage, budget, room)
+                {
+                    Ok(progress) => progress,
+                    Err(_) => Progress::Done,
+                }
             }
-            _ => (),
+            _ => Progress::Done,
         }
     }
 

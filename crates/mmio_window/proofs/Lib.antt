@@ -8,6 +8,7 @@ pub mod Services
 pub mod OneEnd
 pub mod Pieces
 pub mod PiecesExact
+pub mod Underway
 pub mod Stages
 pub mod Ahead
 pub mod Courses

@@ -4,10 +4,10 @@
 
 ghost use Rattle.std.specs.Prelude.{◌≡◌, ◌≤◌, ◌∷◌, ◌/◌, [], true, IfSome, length};
 ghost use Rattle.std.specs.List.{slice_get};
-ghost use Rattle.board.specs.declared.event.DeviceEvent.{DeviceEvent};
 ghost use Rattle.board.specs.declared.event.EventKind.{EventKind};
 ghost use Rattle.board.specs.declared.reply.Reply.{Reply};
 ghost use Rattle.board.specs.Image.{Tells};
+ghost use Rattle.board.specs.InPlace.{event_in};
 ghost use Rattle.board.specs.Slot.{AreInterruptWords};
 ghost use Rattle.trace.specs.Sends.{Sends, waiting};
 ghost use Rattle.trace.specs.Text.{ended};
@@ -19,7 +19,9 @@ ghost use Rattle.hexadecimal.specs.Fields.{IsBytesField};
 ghost use Rattle.trace.specs.Words.{Says, Bytes as ByBytes};
 
 use crate::asking::{put_asked, staying, staying_further};
-use board::{Board, DeviceEvent, Event, EventKind, Handled, Reply, RestoreRefusal, SlotWindow};
+use board::{
+    Board, DeviceEvent, Event, EventKind, Handled, InPlace, Reply, RestoreRefusal, SlotWindow,
+};
 use sector_cache::Image;
 use std::alloc::Allocator;
 use std::io::Write;
@@ -145,7 +147,8 @@ fn answer<I: Image, A: Allocator + Copy>(
             told(reply, words(board, slot))
         }
         EventKind::Input { .. } => {
-            let reply = input(board, slot, bytes_in(room, parsed.bytes));
+            let bytes = bytes_in(room, parsed.bytes);
+            let reply = do_in_place(board, slot, InPlace::Input(bytes));
             told(reply, words(board, slot))
         }
         EventKind::Restore { .. } => {
@@ -177,13 +180,16 @@ fn answer_device<I: Image, A: Allocator + Copy>(
     let EventKind::Device { device, what } = &parsed.event.what else {
         unreachable!();
     };
+    let device = *device;
     match what {
         DeviceEvent::Supply { .. } => {
-            let reply = supply(board, slot, *device, bytes_in(room, parsed.bytes));
+            let bytes = bytes_in(room, parsed.bytes);
+            let reply = do_in_place(board, slot, InPlace::Supply { device, bytes });
             told(reply, words(board, slot))
         }
         DeviceEvent::Receive { .. } => {
-            let reply = receive(board, slot, *device, bytes_in(room, parsed.bytes));
+            let frame = bytes_in(room, parsed.bytes);
+            let reply = do_in_place(board, slot, InPlace::Receive { device, frame });
             told(reply, words(board, slot))
         }
         _ => board.handle(slot, &parsed.event.what, output),
@@ -249,15 +255,16 @@ fn write_memory<I: Image, A: Allocator>(
     }
 }
 
-// Types bytes to a slot's console.
+// Does an event of a slot whose bytes are in a slice.
 #[inline(always)]
-fn input<I: Image, A: Allocator + Copy>(board: &mut Board<I, A>, slot: u8, bytes: &[u8]) -> Reply<A>
-    ensures { AnswersEvent I.disk board.old (record { slot = slot; what = EventKind.Input bytes.now }) result [] board.new }
+fn do_in_place<I: Image, A: Allocator + Copy>(
+    board: &mut Board<I, A>,
+    slot: u8,
+    what: InPlace<'_>,
+) -> Reply<A>
+    ensures { AnswersEvent I.disk board.old (record { slot = slot; what = event_in what.entry }) result [] board.new }
 {
-    match board.input(slot, bytes) {
-        Some(taken) => Reply::Took(taken),
-        None => Reply::BadSlot,
-    }
+    board.do_in_place(slot, what)
 }
 
 // Restores a slot's devices from a snapshot.
@@ -270,30 +277,4 @@ fn restore<I: Image, A: Allocator>(board: &mut Board<I, A>, slot: u8, bytes: &[u
         Err(RestoreRefusal::Busy) => Reply::Busy,
         Err(RestoreRefusal::Fault(_)) => Reply::BadState,
     }
-}
-
-// Supplies a slot's further device with bytes.
-fn supply<I: Image, A: Allocator + Copy>(
-    board: &mut Board<I, A>,
-    slot: u8,
-    device: u8,
-    bytes: &[u8],
-) -> Reply<A>
-    ensures { AnswersEvent I.disk board.old
-        (record { slot = slot; what = EventKind.Device device (DeviceEvent.Supply bytes.now) }) result [] board.new }
-{
-    board.supply(slot, device, bytes)
-}
-
-// Hands a slot's network card a frame.
-fn receive<I: Image, A: Allocator + Copy>(
-    board: &mut Board<I, A>,
-    slot: u8,
-    device: u8,
-    frame: &[u8],
-) -> Reply<A>
-    ensures { AnswersEvent I.disk board.old
-        (record { slot = slot; what = EventKind.Device device (DeviceEvent.Receive frame.now) }) result [] board.new }
-{
-    board.receive(slot, device, frame)
 }

@@ -12,7 +12,7 @@ use Rattle.board.specs.declared.event.Event.{Event}
 use Rattle.board.specs.declared.event.EventKind.{EventKind}
 use Rattle.board.specs.declared.pause.Pause.{Pause}
 use Rattle.board.specs.declared.pause.Service.{Service}
-use Rattle.board.specs.declared.pause.Service.TheVariants.{Block, Receive, Transmit}
+use Rattle.board.specs.declared.pause.Service.TheVariants.{Block, Receive, Transmit, Further}
 use Rattle.board.specs.declared.pause.Turn.{Turn}
 use Rattle.board.specs.declared.pause.Turn.TheVariants as turn
 use Rattle.board.specs.declared.reply.Reply.TheVariants as reply
@@ -23,7 +23,6 @@ use Rattle.board.specs.Pausing as pausing
 use Rattle.board.specs.Pausing.{Begins, GoesOnBy, IsPiece, TurnsTo, asked, is_hosts, readied}
 use Rattle.board.specs.Slot.{BoardSlot, SlotState, state_of}
 use Rattle.board.specs.World.{MayGive}
-use Rattle.board.proofs.Identities.{readied_fixed}
 use Rattle.board.proofs.Lists.{get_set}
 use Rattle.session.specs.declared.progress.Progress.{Progress}
 use Rattle.session.specs.declared.progress.Progress.TheVariants as progress
@@ -35,6 +34,7 @@ use Rattle.session.specs.Operations.{HasAsked}
 use Rattle.session.specs.Pacing.{GoOn, Handle, response_to}
 use Rattle.session.specs.Pausing.{ComesTo, IsCall, IsTurn, WentOn}
 use Rattle.session.specs.Session.{SessionState, world_of}
+use Rattle.session.proofs.Parts.{readied_host}
 
 -- ---- a piece of a service keeps who has the disk, and what is in flight
 
@@ -47,6 +47,7 @@ piece_host Block stage budget came old before after new output (inr h) =
     ap (λ (s : SlotState). s.host) h.piece.is
 piece_host Receive stage budget came old before after new output h = ap (λ (s : SlotState). s.host) h.is
 piece_host Transmit stage budget came old before after new output h = ap (λ (s : SlotState). s.host) h.is
+piece_host (Further n q) stage budget came old before after new output h = ap (λ (s : SlotState). s.host) h.is
 
 comes_host : {A : Type 0} (pause : Pause) (stage : Stage) (budget : Budget) (old : SlotState)
     (before after : Health) (new : SlotState) (output : List ℕ) (t : Turn A)
@@ -72,7 +73,7 @@ paused_host : {A : Type 0} (o : Option Pause) (what : EventKind A) (budget : Bud
 paused_host None what budget old before after new output pause h = absurd h
 paused_host {A} (Some asks) what budget old before after new output pause h =
     comes_host {A = A} asks First budget (readied what old) before after new output (turn.More pause) h
-    ∙ (readied_fixed what old).host
+    ∙ readied_host what old
 
 -- ---- what is said of a slot by who has its disk, and what is in flight
 

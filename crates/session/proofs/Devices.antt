@@ -1,49 +1,48 @@
--- What is done to a further device: what it is answered, and the step and the call of its event.
-use Rattle.std.proofs.Common.{◌≡◌, ◌≢◌, ◌↔◌, ◌⊎◌, inl, inr, ℕ, ◌<◌, ◌≤◌, Bool, true, false, List, [], length, Option, Some, None, refl, sym, ◌∙◌, ap, subst, arith}
-use Rattle.std.specs.Prelude.{◌&&◌, if◌then◌else◌, is_some, nat_lt, unwrap_or, IfOk, IsSome, IsSomeAnd, IsTrue, MatchOption, Result, Ok, Err}
+-- What is done to a further device: what it is answered, and the call of its event.
+use Rattle.std.proofs.Common.{◌≡◌, ◌≢◌, ◌↔◌, ◌⊎◌, inl, inr, ℕ, Bool, true, false, List, [], length, Option, Some, None, refl, sym, ◌∙◌, ap, subst}
+use Rattle.std.specs.Prelude.{⊤, ◌&&◌, if◌then◌else◌, is_none, unwrap_or, IfOk, IsSome, IsSomeAnd, MatchOption, Result, Ok, Err, IfErr}
 use Rattle.std.specs.List.{slice_get}
 use Rattle.std.specs.Option.{option_and_then, option_map, option_map_or}
-use Rattle.std.proofs.lemmas.Bool.Decides.{nat_tests}
-use Rattle.std.proofs.lemmas.List.{length-map}
-use Rattle.std.proofs.lemmas.Option.{same_Some, slice_get_cases, slice_get_within}
+use Rattle.std.proofs.lemmas.Option.{same_Some}
 use Rattle.block_device.specs.Flights.{is_any}
 use Rattle.network_device.specs.declared.refusal.FrameRefusal.TheVariants.{Full}
 use Rattle.device_list.specs.declared.refusal.ReceiveRefusal.{ReceiveRefusal}
 use Rattle.device_list.specs.declared.refusal.ReceiveRefusal.TheVariants.{Frame}
 use Rattle.device_list.specs.Card.{Card, receive_refusal}
 use Rattle.device_list.specs.Device.{DeviceState, supply_taken}
-use Rattle.device_list.specs.List.{card_at, disk_at, outgoing_at, sent_by, terminal_at, waits_at}
+use Rattle.device_list.specs.List.{card_at, disk_at, outgoing_at, sent_by, notified_at, terminal_at, waits_at}
 use Rattle.device_list.specs.Terminal.{Terminal}
 use Rattle.hosted_disk.specs.Disk.{HostedDisk}
 use Rattle.hosted_disk.specs.Told.{has_effect}
 use Rattle.block_device.specs.declared.operation.HostEvent.{HostEvent}
 use Rattle.board.specs.declared.event.DeviceEvent.{DeviceEvent}
-use Rattle.board.specs.declared.event.DeviceEvent.TheVariants.{Plug, Read, Write, Supply, Receive, TakeSent, SetLink, Resize, Host}
+use Rattle.board.specs.declared.event.DeviceEvent.TheVariants.{Plug, Read, Write, Supply, Receive, TakeSent, DropSent, SetLink, Resize, Host}
 use Rattle.board.specs.declared.event.EventKind.TheVariants.{Device}
 use Rattle.board.specs.declared.reply.Record.{Record}
 use Rattle.board.specs.declared.reply.Reply.{Reply}
-use Rattle.board.specs.declared.reply.Reply.TheVariants.{Value, Done, Bytes, Took, BadSlot, BadRange, BadDevice, NoMemory}
+use Rattle.board.specs.declared.reply.Reply.TheVariants.{Value, Done, Bytes, Took, BadSlot, BadDevice, NoMemory}
 use Rattle.board.specs.declared.reply.Reply.TheVariants as told
 use Rattle.board.specs.Backing.{HostDisk, tags_in}
-use Rattle.board.specs.Devices.{GivesByDevice, MayReplyDevice, TakesMemoryFor, can_plug, device_reply, has_effect_at, has_sent, received_reply, reply_at, taken_reply, told_reply, waits_for_disk}
+use Rattle.board.specs.Devices.{GivesByDevice, MayReplyDevice, TakesMemoryFor, can_plug, device_asks, device_reply, further_service, has_effect_at, received_reply, reply_at, told_reply, waits_for_disk, waits_there}
 use Rattle.board.specs.Hosting.{OwnGives}
 use Rattle.board.specs.Image.{Health}
-use Rattle.board.specs.Outcome.{Outcome, replies}
-use Rattle.board.specs.Slot.{BoardSlot, SlotState, state_of}
-use Rattle.board.specs.World.{Answers, KeepsOthers, MayGive, MayGiveBy, MayGiveOverImage, MissingStep, SlotStep, World, extents_of}
+use Rattle.board.specs.Outcome.{Outcome}
+use Rattle.board.specs.Slot.{SlotState}
+use Rattle.board.specs.World.{Answers, MayGive, MayGiveBy, MayGiveOverImage, MissingStep, SlotStep, World}
 use Rattle.board.proofs.Replies.{given_replies}
 use Rattle.session.specs.declared.response.Response.{Response}
 use Rattle.session.specs.declared.response.Response.TheVariants.{Answered, More, Busy, Idle}
-use Rattle.session.specs.declared.refusal.Refusal.TheVariants as refusal
-use Rattle.session.specs.Answering.{IsDoneOrRefusing, IsReading, IsServing, IsTakenWhole, IsTaking, Means, RefusalMeans, Suits, SuitsCall, served_response}
+use Rattle.session.specs.declared.handed.Handed.{Handed}
+use Rattle.session.specs.Answering.{IsDoneOrRefusing, IsHanding, IsReading, IsServing, Means, SuitsCall, handed_by, handed_response, served_response}
 use Rattle.session.specs.declared.progress.Progress.{Progress}
 use Rattle.session.specs.declared.progress.Progress.TheVariants as progress
 use Rattle.session.specs.declared.refusal.Refusal.{Refusal}
-use Rattle.session.specs.Session.{IsStep, SessionState, world_of}
-use Rattle.session.proofs.Parts.{given}
-use Rattle.session.proofs.Slots.{slots_step}
+use Rattle.session.specs.declared.refusal.Refusal.TheVariants as refusal
+use Rattle.session.specs.Devices.{sent_at, sent_count}
+use Rattle.session.specs.Pausing.{IsEventCall, IsWhole, taken_at}
+use Rattle.session.specs.Session.{IsStep, SessionState, output_of, world_of}
+use Rattle.session.proofs.Paused.{drop_takes, frame_takes, pauses, seen_sent}
 use Rattle.session.proofs.Suiting.{suits}
-use Rattle.session.proofs.Unchanged.{missing as past_step, unchanged}
 
 -- ---- what takes such a thing never answers that it doesn't
 
@@ -98,6 +97,9 @@ never_bad n (Supply bytes) state is = bad_found (Supply bytes) (slice_get state.
 never_bad n (Receive frame) state is = bad_received frame (receive_refusal frame (card_at n state.devices)) is
 never_bad {A} n TakeSent state is =
     bad_card {A = A} (λ sent. Bytes (unwrap_or sent [])) (outgoing_at n state.devices)
+    (λ sent same. absurd (cc (same))) is
+never_bad {A} n DropSent state is =
+    bad_card {A = A} (λ sent. Took (length (unwrap_or sent []))) (outgoing_at n state.devices)
     (λ sent same. absurd (cc (same))) is
 never_bad {A} n (SetLink up) state is =
     bad_card {A = A} {X = Card} (λ card. Done) (card_at n state.devices) (λ card same. absurd (cc (same))) is
@@ -226,20 +228,6 @@ idle_exact {A} n word state before after outcome h =
     (λ lacks. subst (λ (r : Reply A). MayReplyDevice (Host word) r) lacks
     (given_replies state (Device n (Host word)) before after outcome h)))
 
--- ---- which replies there never are
-
-never : {A : Type 0} (what : DeviceEvent A)
-    → (MayReplyDevice what BadSlot → ⊥) × (MayReplyDevice what BadRange → ⊥)
-never (Plug spec) = (λ may. may, λ may. may)
-never (Read offset width) = (λ may. may, λ may. may)
-never (Write offset width value) = (λ may. may, λ may. may)
-never (Supply bytes) = (λ may. may, λ may. may)
-never (Receive frame) = (λ may. may, λ may. may)
-never TakeSent = (λ may. may, λ may. may)
-never (SetLink up) = (λ may. may, λ may. may)
-never (Resize cols rows) = (λ may. may, λ may. may)
-never (Host said) = (λ may. may, λ may. may)
-
 -- ---- which responses there may be
 
 pub reads_suit : {A : Type 0} (n offset width : ℕ) (r : Response A) → SuitsCall (Device n (Read offset width)) r
@@ -259,7 +247,7 @@ writes_suit n offset width value (Answered BadSlot) suits = tt
 writes_suit n offset width value (Answered BadDevice) suits = tt
 writes_suit n offset width value (Answered told.Busy) suits = tt
 writes_suit n offset width value (Answered reply) suits = absurd suits
-writes_suit n offset width value More suits = absurd suits
+writes_suit n offset width value More suits = tt
 writes_suit n offset width value Busy suits = tt
 writes_suit n offset width value Idle suits = absurd suits
 
@@ -274,13 +262,14 @@ words_suit n said More suits = absurd suits
 words_suit n said Busy suits = tt
 words_suit n said Idle suits = absurd suits
 
--- none pauses
-pub at_once : {A : Type 0} (n : ℕ) (what : DeviceEvent A) (response : Response A) (r : Result Progress Refusal)
-    → Means served_response r response → SuitsCall (Device n what) response → IfOk r (λ came. came ≢ progress.More)
-at_once n what response (Ok progress.Done) means suits = λ is. cc (is)
-at_once n what response (Ok progress.Asks) means suits = λ is. cc (is)
-at_once n what response (Ok progress.More) means suits = absurd (rw means at suits)
-at_once n what response (Err why) means suits = tt
+-- none of these pauses
+pub at_once : {A : Type 0} (n : ℕ) (said : HostEvent) (response : Response A) (r : Result Progress Refusal)
+    → Means served_response r response → SuitsCall (Device n (Host said)) response
+    → IfOk r (λ came. came ≢ progress.More)
+at_once n said response (Ok progress.Done) means suits = λ is. cc (is)
+at_once n said response (Ok progress.Asks) means suits = λ is. cc (is)
+at_once n said response (Ok progress.More) means suits = absurd (rw means at suits)
+at_once n said response (Err why) means suits = tt
 
 pub links_suit : {A : Type 0} (n : ℕ) (up : Bool) (r : Response A) → SuitsCall (Device n (SetLink up)) r
     → IsDoneOrRefusing r
@@ -302,82 +291,81 @@ resizes_suit n cols rows More suits = absurd suits
 resizes_suit n cols rows Busy suits = tt
 resizes_suit n cols rows Idle suits = absurd suits
 
-pub supplies_suit : {A : Type 0} (n : ℕ) (bytes : List ℕ) (reply : Reply A) → Suits (Device n (Supply bytes)) reply
-    → IsTaking (Answered reply)
-supplies_suit n bytes (Took taken) suits = tt
-supplies_suit n bytes BadSlot suits = tt
-supplies_suit n bytes BadDevice suits = tt
-supplies_suit n bytes reply suits = absurd suits
+pub supplies_suit : {A : Type 0} (n : ℕ) (bytes : List ℕ) (r : Response A) → SuitsCall (Device n (Supply bytes)) r
+    → IsHanding r
+supplies_suit n bytes (Answered (Took taken)) suits = tt
+supplies_suit n bytes (Answered BadSlot) suits = tt
+supplies_suit n bytes (Answered BadDevice) suits = tt
+supplies_suit n bytes (Answered reply) suits = absurd suits
+supplies_suit n bytes More suits = tt
+supplies_suit n bytes Busy suits = tt
+supplies_suit n bytes Idle suits = absurd suits
 
--- what takes bytes answers without memory of its own
-pub never_lacks : {A : Type 0} (reply : Reply A) (n : ℕ) (what : DeviceEvent A) → Suits (Device n what) reply
-    → (Suits (Device n what) NoMemory → ⊥) → reply ≢ NoMemory
-never_lacks {A} reply n what suits never is = never (subst (λ (r : Reply A). Suits (Device n what) r) is suits)
+pub receives_suit : {A : Type 0} (n : ℕ) (frame : List ℕ) (r : Response A) → SuitsCall (Device n (Receive frame)) r
+    → IsHanding r
+receives_suit n frame (Answered (Took taken)) suits = tt
+receives_suit n frame (Answered BadSlot) suits = tt
+receives_suit n frame (Answered BadDevice) suits = tt
+receives_suit n frame (Answered reply) suits = absurd suits
+receives_suit n frame More suits = tt
+receives_suit n frame Busy suits = tt
+receives_suit n frame Idle suits = absurd suits
+
+pub drops_suit : {A : Type 0} (n : ℕ) (r : Response A) → SuitsCall (Device n DropSent) r → IsHanding r
+drops_suit n (Answered (Took taken)) suits = tt
+drops_suit n (Answered BadSlot) suits = tt
+drops_suit n (Answered BadDevice) suits = tt
+drops_suit n (Answered reply) suits = absurd suits
+drops_suit n More suits = tt
+drops_suit n Busy suits = tt
+drops_suit n Idle suits = absurd suits
+
+-- and how such a call is refused
+pub drops_refuse : {A : Type 0} (n : ℕ) (response : Response A) (r : Result Handed Refusal)
+    → Means handed_response r response → SuitsCall (Device n DropSent) response
+    → IfErr r (λ why. (why ≡ refusal.BadSlot) ⊎ (why ≡ refusal.Busy) ⊎ (why ≡ refusal.BadDevice))
+drops_refuse n response (Ok handed) means suits = tt
+drops_refuse n response (Err refusal.BadSlot) means suits = inl refl
+drops_refuse n response (Err refusal.Busy) means suits = inr (inl refl)
+drops_refuse n response (Err refusal.BadDevice) means suits = inr (inr refl)
+drops_refuse n response (Err refusal.BadRange) means suits = absurd (rw means at suits)
+drops_refuse n response (Err refusal.NoRoom) means suits = absurd (rw means at suits)
+drops_refuse n response (Err refusal.Idle) means suits = absurd (rw means at suits)
 
 -- ---- what is answered, by the slot's state
 
-module _ (A : Type 0) (old new : World) (slot n : ℕ) (what : DeviceEvent A) (reply : Reply A)
-    (answers : Answers {A = A} old (record { slot = slot; what = Device n what }) reply [] [] new)
+-- the slot isn't there, or it is in some state, and its device answers
+abbrev IsSaid : {A : Type 0} → World → ℕ → ℕ → DeviceEvent A → Reply A → Type 0
+IsSaid old slot n what reply =
+    (reply ≡ BadSlot)
+    ⊎ ((state : SlotState) × (slice_get old.slots slot ≡ Some state)
+    × (reply ≡ unwrap_or (reply_at n what state) BadDevice))
+
+module _ (A : Type 0) (old new : World) (slot n : ℕ) (what : DeviceEvent A) (reply : Reply A) (before after : List ℕ)
+    (answers : Answers {A = A} old (record { slot = slot; what = Device n what }) reply before after new)
     (found : reply ≢ NoMemory) where
-  -- the slot isn't there, or it is in some state, and its device answers
-  said_at : (o : Option SlotState)
+  said_at : (o : Option SlotState) → slice_get old.slots slot ≡ o
       → MatchOption o (MissingStep old slot answers.written new)
-      (λ s. SlotStep old slot s (Device n what) answers.written new)
-      → (reply ≡ BadSlot) ⊎ ((state : SlotState) × (reply ≡ unwrap_or (reply_at n what state) BadDevice))
-  said_at None step = inl (sym answers.replied ∙ ap (λ (w : Record A). w.reply) step.recorded)
-  said_at (Some state) step =
+      (λ s. SlotStep old slot s (Device n what) answers.written new) → IsSaid old slot n what reply
+  said_at None there step = inl (sym answers.replied ∙ ap (λ (w : Record A). w.reply) step.recorded)
+  said_at (Some state) there step =
       let same : step.outcome.reply ≡ reply =
       sym (ap (λ (w : Record A). w.reply) step.recorded) ∙ answers.replied in
       inr (
         state,
+        there,
         sym same
             ∙ said n what state _ _ step.outcome step.given (λ lacks. found (sym same ∙ lacks)),
       )
 
-  pub said_so : (reply ≡ BadSlot) ⊎ ((state : SlotState) × (reply ≡ unwrap_or (reply_at n what state) BadDevice))
-  said_so = said_at (slice_get old.slots slot) answers.step
-
--- ---- what the board answers by a slice is the session's step
-
-module _ (A : Type 0) (old new : SessionState) (slot n : ℕ) (what : DeviceEvent A) (reply : Reply A)
-    (answers : Answers {A = A} (world_of old) (record { slot = slot; what = Device n what }) reply [] []
-    (world_of new)) (others : KeepsOthers slot old.slots new.slots)
-    (extents : extents_of new.slots ≡ extents_of old.slots) (rest : new ≡ record old { slots = new.slots })
-    (found : reply ≢ NoMemory) where
-  abbrev Says : Type 0
-  Says = (reply ≡ BadSlot) ↔ (length old.slots ≤ slot)
-
-  missing_at : (o : Option SlotState) → slice_get (world_of old).slots slot ≡ o
-      → MatchOption o (MissingStep (world_of old) slot answers.written (world_of new))
-      (λ s. SlotStep (world_of old) slot s (Device n what) answers.written (world_of new)) → Says
-  missing_at None is step =
-      let past : length old.slots ≤ slot =
-      grind (arith, slice_get_cases (world_of old).slots slot, length-map old.slots (state_of old.image)) in (
-        λ told. past,
-        λ far. sym answers.replied ∙ ap (λ (w : Record A). w.reply) step.recorded,
-      )
-  missing_at (Some state) is step =
-      let fits : slot < length old.slots =
-      subst (λ m. slot < m) (length-map old.slots (state_of old.image))
-      (slice_get_within (world_of old).slots slot state is) in (
-        λ told. absurd ((never what).0 (subst (λ (r : Reply A). MayReplyDevice what r)
-            (sym (ap (λ (w : Record A). w.reply) step.recorded) ∙ answers.replied ∙ told)
-            (given_replies state (Device n what) _ _ step.outcome step.given))),
-        λ far. absurd (omega (arith, fits, far)),
-      )
-
-  missing : Says
-  missing = missing_at (slice_get (world_of old).slots slot) refl answers.step
-
-  in_range : reply ≡ BadRange → ⊥
-  in_range is = (never what).1 (subst (λ (r : Reply A). Suits (Device n what) r) is (suits answers))
-
-  pub step : IsStep {A = A} old (record { slot = slot; what = Device n what }) reply new
-  step =
-      slots_step old new (record { slot = slot; what = Device n what }) reply answers others extents rest
-      (λ limit found after waiting left reply. tt) found in_range missing
+  said_so : IsSaid old slot n what reply
+  said_so = said_at (slice_get old.slots slot) refl answers.step
 
 -- ---- a frame is taken whole, or there is no room for it
+
+abbrev IsTakenWhole : {A : Type 0} → List ℕ → Reply A → Type 0
+IsTakenWhole frame (Took taken) = (taken ≡ length frame) ⊎ (taken ≡ 0)
+IsTakenWhole frame reply = ⊤
 
 whole_by : (A : Type 0) (frame : List ℕ) (why : Option ReceiveRefusal)
     → IsTakenWhole {A = A} frame (unwrap_or (received_reply frame why) BadDevice)
@@ -385,91 +373,143 @@ whole_by A frame None = inl refl
 whole_by A frame (Some (Frame Full)) = inr refl
 whole_by A frame (Some _) = tt
 
-pub taken_whole : {A : Type 0} (n : ℕ) (frame : List ℕ) (reply : Reply A)
-    → (reply ≡ BadSlot) ⊎ ((state : SlotState) × (reply ≡ unwrap_or (reply_at n (Receive frame) state) BadDevice))
-    → IsTakenWhole frame reply
-taken_whole {A} n frame reply (inl missing) = subst (λ (r : Reply A). IsTakenWhole frame r) (sym missing) tt
-taken_whole {A} n frame reply (inr (state, so)) =
+taken_whole : {A : Type 0} (old : World) (slot n : ℕ) (frame : List ℕ) (reply : Reply A)
+    → IsSaid old slot n (Receive frame) reply → IsTakenWhole frame reply
+taken_whole {A} old slot n frame reply (inl missing) = subst (λ (r : Reply A). IsTakenWhole frame r) (sym missing) tt
+taken_whole {A} old slot n frame reply (inr (state, there, so)) =
     subst (λ (r : Reply A). IsTakenWhole frame r) (sym so)
     (whole_by A frame (receive_refusal frame (card_at n state.devices)))
 
--- ---- what was sent is taken away
+-- as it is answered at once
+pub whole_at_once : (A : Type 0) (old new : SessionState) (slot n : ℕ) (frame : List ℕ) (taken : ℕ)
+    → IsStep {A = A} old (record { slot = slot; what = Device n (Receive frame) }) (Took taken) new
+    → (taken ≡ length frame) ⊎ (taken ≡ 0)
+whole_at_once A old new slot n frame taken step =
+    taken_whole {A = A} (world_of old) slot n frame (Took taken)
+    (said_so A (world_of old) (world_of new) slot n (Receive frame) (Took taken) (output_of slot old)
+    (output_of slot new) step.answers (λ lacks. cc (lacks)))
 
--- by what waits
-pub record TakenAway (A : Type 0) (n : ℕ) (devices : List DeviceState) (taken : Bool) : Type 0 where
-  pub reply : ◌≡◌ {A = Reply A} (taken_reply n devices) (Bytes (unwrap_or (sent_by n devices) []))
-  pub waited : IsTrue taken ↔ IsSome (sent_by n devices)
+-- or as its service pauses
+pub frame_whole : {A : Type 0} (old new : SessionState) (slot n : ℕ) (frame : List ℕ) (response : Response A)
+    (r : Result Handed Refusal) → IsEventCall old slot (Device n (Receive frame)) response new
+    → Means handed_response r response
+    → IfOk r (λ handed. handed.progress ≡ progress.More → taken_at slot new ≡ Some handed.taken)
+    → IfOk r (λ handed. (handed.taken ≡ length frame) ⊎ (handed.taken ≡ 0))
+frame_whole old new slot n frame response (Err why) call means taken = tt
+frame_whole {A} old new slot n frame response (Ok handed) call means taken =
+    by_progress handed.taken handed.progress means taken
+  where
+    answered : (count : ℕ) → response ≡ Answered (Took count) → (count ≡ length frame) ⊎ (count ≡ 0)
+    answered count is =
+        whole_at_once A old new slot n frame count
+        (subst (λ (told : Response A). IsWhole old (record { slot = slot; what = Device n (Receive frame) }) told new) is
+        call.whole)
 
-waits_by : (sent : Option (List ℕ)) → IsTrue (is_some sent) ↔ IsSome sent
-waits_by None = (λ is. absurd (cc (is)), λ some. absurd (cc (some)))
-waits_by (Some bytes) = (λ is. refl, λ some. refl)
+    by_progress : (count : ℕ) (came : Progress) → response ≡ handed_by count came
+        → (came ≡ progress.More → taken_at slot new ≡ Some count) → (count ≡ length frame) ⊎ (count ≡ 0)
+    by_progress count progress.Done is paused = answered count is
+    by_progress count progress.Asks is paused = answered count is
+    by_progress count progress.More is paused =
+        let p = pauses old new slot (Device n (Receive frame)) response is call.turn in
+        inl (same_Some count (length frame) (sym (paused refl) ∙ frame_takes A old new slot n frame p))
 
-by_sender : (A : Type 0) (found : Option (Option (List ℕ))) (taken : Bool)
-    → option_map (λ sent. is_some sent) found ≡ Some taken
-    → ◌≡◌ {A = Reply A} (unwrap_or (option_map (λ sent. Bytes (unwrap_or sent [])) found) BadDevice)
-    (Bytes (unwrap_or (option_and_then (λ sent. sent) found) []))
-    × (IsTrue taken ↔ IsSome (option_and_then (λ sent. sent) found))
-by_sender A None taken is = absurd (cc (is))
-by_sender A (Some sent) taken is = (
-  refl,
-  subst (λ b. IsTrue b ↔ IsSome sent) (same_Some (is_some sent) taken is) (waits_by sent),
-)
+-- ---- what was sent is dropped whole, if anything was
 
-pub taken_away : (A : Type 0) (n : ℕ) (devices : List DeviceState) (taken : Bool) → has_sent n devices ≡ Some taken
-    → TakenAway A n devices taken
-taken_away A n devices taken is =
-    let both = by_sender A (outgoing_at n devices) taken is in
-    record { reply = both.0; waited = both.1 }
+-- where something may be sent
+counted_by : (A : Type 0) (found : Option (Option (List ℕ))) (count : ℕ)
+    → ◌≡◌ {A = Reply A} (Took count)
+    (unwrap_or (option_map (λ sent. Took (length (unwrap_or sent []))) found) BadDevice)
+    → count ≡ sent_count (option_and_then (λ sent. sent) found)
+counted_by A None count is = absurd (cc (is))
+counted_by A (Some None) count is = cc (is)
+counted_by A (Some (Some sent)) count is = cc (is)
 
--- and of a device that sends nothing there is none
-no_sender : (A : Type 0) (found : Option (Option (List ℕ))) → option_map (λ sent. is_some sent) found ≡ None
-    → ◌≡◌ {A = Option (Reply A)} (option_map (λ sent. Bytes (unwrap_or sent [])) found) None
-no_sender A None is = refl
-no_sender A (Some sent) is = absurd (cc (is))
+counted : (A : Type 0) (old : SessionState) (slot n count : ℕ)
+    → IsSaid {A = A} (world_of old) slot n DropSent (Took count) → count ≡ sent_count (sent_at slot n old.slots)
+counted A old slot n count (inl missing) = absurd (cc (missing))
+counted A old slot n count (inr (state, there, so)) =
+    let same : sent_at slot n old.slots ≡ sent_by n state.devices =
+    seen_sent old.slots old.image slot n
+    ∙ ap (λ (o : Option SlotState). option_and_then (λ (s : SlotState). sent_by n s.devices) o) there in
+    counted_by A (outgoing_at n state.devices) count so ∙ ap sent_count (sym same)
 
--- ---- what no device takes changes nothing
+-- as it is answered at once
+counted_at_once : (A : Type 0) (old new : SessionState) (slot n count : ℕ)
+    → IsStep {A = A} old (record { slot = slot; what = Device n DropSent }) (Took count) new
+    → count ≡ sent_count (sent_at slot n old.slots)
+counted_at_once A old new slot n count step =
+    counted A old slot n count
+    (said_so A (world_of old) (world_of new) slot n DropSent (Took count) (output_of slot old) (output_of slot new)
+    step.answers (λ lacks. cc (lacks)))
 
-refused_by : {A : Type 0} (n : ℕ) (what : DeviceEvent A) (state : SlotState) (health : Health)
-    → reply_at n what state ≡ None
-    → MayGiveOverImage state (Device n what) health health (replies state BadDevice)
-refused_by n what state health none =
-    inl (record {
-      alike = rw none (record { alike = refl; image = refl });
-      answered = λ is. absurd (cc (is));
-      failures = refl;
-    })
+-- or as its service pauses
+pub drop_counts : {A : Type 0} (old new : SessionState) (slot n : ℕ) (response : Response A) (r : Result Handed Refusal)
+    → IsEventCall old slot (Device n DropSent) response new → Means handed_response r response
+    → IfOk r (λ handed. handed.progress ≡ progress.More → taken_at slot new ≡ Some handed.taken)
+    → IfOk r (λ handed. handed.taken ≡ sent_count (sent_at slot n old.slots))
+drop_counts old new slot n response (Err why) call means taken = tt
+drop_counts {A} old new slot n response (Ok handed) call means taken =
+    by_progress handed.taken handed.progress means taken
+  where
+    answered : (count : ℕ) → response ≡ Answered (Took count) → count ≡ sent_count (sent_at slot n old.slots)
+    answered count is =
+        counted_at_once A old new slot n count
+        (subst (λ (told : Response A). IsWhole old (record { slot = slot; what = Device n DropSent }) told new) is
+        call.whole)
 
-pub refused_step : {A : Type 0} (s : SessionState) (slot n : ℕ) (what : DeviceEvent A) (o : Option BoardSlot)
-    → slice_get s.slots slot ≡ o
-    → ((found : BoardSlot) → o ≡ Some found → reply_at n what (state_of s.image found) ≡ None)
-    → IsStep s (record { slot = slot; what = Device n what })
-    (if nat_lt slot (length s.slots) then BadDevice else BadSlot) s
-refused_step s slot n what None here none =
-    let past : length s.slots ≤ slot = grind (arith, slice_get_cases s.slots slot) in
-    let test : nat_lt slot (length s.slots) ≡ false = grind (arith, nat_tests) in
-    rw test (past_step s (record { slot = slot; what = Device n what }) past)
-refused_step s slot n what (Some found) here none =
-    let fits : slot < length s.slots = slice_get_within s.slots slot found here in
-    let test : nat_lt slot (length s.slots) ≡ true = grind (arith, nat_tests) in
-    rw test (unchanged s (record { slot = slot; what = Device n what }) BadDevice found here refl
-    (λ is. absurd (cc)) (λ is. absurd (cc))
-    (given (state_of s.image found) (Device n what) (world_of s).health
-    (replies (state_of s.image found) BadDevice) refl refl refl
-    (refused_by n what (state_of s.image found) (world_of s).health (none found refl)))
-    (λ limit found after waiting left reply. tt))
+    by_progress : (count : ℕ) (came : Progress) → response ≡ handed_by count came
+        → (came ≡ progress.More → taken_at slot new ≡ Some count) → count ≡ sent_count (sent_at slot n old.slots)
+    by_progress count progress.Done is paused = answered count is
+    by_progress count progress.Asks is paused = answered count is
+    by_progress count progress.More is paused =
+        let p = pauses old new slot (Device n DropSent) response is call.turn in
+        same_Some count (sent_count (sent_at slot n old.slots)) (sym (paused refl) ∙ drop_takes A old new slot n p)
 
--- a slot without such a device gives nothing
-pub none_taken : (A : Type 0) (n : ℕ) (image : List ℕ) (o : Option BoardSlot)
-    → option_and_then (λ found. has_sent n found.devices) o ≡ None → (found : BoardSlot) → o ≡ Some found
-    → reply_at {A = A} n TakeSent (state_of image found) ≡ None
-none_taken A n image None is found here = absurd (cc (here))
-none_taken A n image (Some slot) is found here =
-    no_sender A (outgoing_at n found.devices)
-    (subst (λ (s : BoardSlot). has_sent n s.devices ≡ None) (same_Some slot found here) is)
+-- ---- an event that no device takes asks for no service
 
--- what such a refusal means
-pub refused_device : (A : Type 0) (there : Bool)
-    → RefusalMeans {A = A} (if there then refusal.BadDevice else refusal.BadSlot)
-    (Answered (if there then BadDevice else BadSlot))
-refused_device A true = refl
-refused_device A false = refl
+none_written : (A : Type 0) (n offset width value : ℕ) (waits : Bool) (found : Option DeviceState)
+    → option_and_then (device_reply {A = A} (Write offset width value)) found ≡ None
+    → (if waits then None
+    else option_map (λ q. further_service n q None) (option_and_then (notified_at offset width value) found)) ≡ None
+none_written A n offset width value true found none = refl
+none_written A n offset width value false None none = refl
+none_written A n offset width value false (Some d) none = absurd (cc (none))
+
+none_taking : (A : Type 0) (n : ℕ) (taken : Option ℕ) → ◌≡◌ {A = Option (Reply A)} (option_map Took taken) None
+    → option_map (λ count. further_service n 0 (Some count)) taken ≡ None
+none_taking A n None none = refl
+none_taking A n (Some count) none = absurd (cc (none))
+
+none_supplied : (A : Type 0) (n : ℕ) (bytes : List ℕ) (found : Option DeviceState)
+    → option_and_then (device_reply {A = A} (Supply bytes)) found ≡ None
+    → option_map (λ count. further_service n 0 (Some count)) (option_and_then (supply_taken bytes) found) ≡ None
+none_supplied A n bytes None none = refl
+none_supplied A n bytes (Some d) none = none_taking A n (supply_taken bytes d) none
+
+none_received : (A : Type 0) (n : ℕ) (frame : List ℕ) (why : Option ReceiveRefusal)
+    → received_reply {A = A} frame why ≡ None
+    → (if is_none why then Some (further_service n 0 (Some (length frame))) else None) ≡ None
+none_received A n frame None none = absurd (cc (none))
+none_received A n frame (Some why) none = refl
+
+none_dropped : (A : Type 0) (n : ℕ) (found : Option (Option (List ℕ)))
+    → ◌≡◌ {A = Option (Reply A)} (option_map (λ sent. Took (length (unwrap_or sent []))) found) None
+    → option_map (λ sent. further_service n 1 (Some (length sent))) (option_and_then (λ sent. sent) found) ≡ None
+none_dropped A n None none = refl
+none_dropped A n (Some sent) none = absurd (cc (none))
+
+pub unanswered_asks : {A : Type 0} (n : ℕ) (what : DeviceEvent A) (state : SlotState)
+    → reply_at n what state ≡ None → device_asks n what state ≡ None
+unanswered_asks {A} n (Write offset width value) state none =
+    none_written A n offset width value (waits_there n offset state.devices) (slice_get state.devices n) none
+unanswered_asks {A} n (Supply bytes) state none = none_supplied A n bytes (slice_get state.devices n) none
+unanswered_asks {A} n (Receive frame) state none =
+    none_received A n frame (receive_refusal frame (card_at n state.devices)) none
+unanswered_asks {A} n DropSent state none = none_dropped A n (outgoing_at n state.devices) none
+unanswered_asks n what state none = refl
+
+-- and none does that waits
+pub waiting_asks : {A : Type 0} (n : ℕ) (what : DeviceEvent A) (state : SlotState)
+    → waits_for_disk what n state.devices ≡ true → device_asks n what state ≡ None
+waiting_asks n (Write offset width value) state waits = rw waits refl
+waiting_asks n what state waits = absurd (cc (waits))

@@ -1,6 +1,6 @@
 -- When each refusal of a call comes.
-use Rattle.std.proofs.Common.{◌≡◌, ◌⊎◌, ◌↔◌, inl, inr, ℕ, ◌<◌, ◌≤◌, Bool, true, false, List, [], length, get_or, Option, Some, None, refl, sym, ◌∙◌, ap, subst, arith}
-use Rattle.std.specs.Prelude.{◌&&◌, ◌||◌, is_some, nat_lt, if◌then◌else◌, unwrap_or, IsErrOf, IsSome, IsSomeAnd, IsTrue, Result, Ok, Err}
+use Rattle.std.proofs.Common.{◌≡◌, ◌⊎◌, ◌↔◌, inl, inr, ℕ, ◌<◌, ◌≤◌, Bool, true, false, List, length, get_or, Option, Some, None, refl, sym, ◌∙◌, ap, subst, arith}
+use Rattle.std.specs.Prelude.{◌&&◌, ◌||◌, is_some, nat_lt, if◌then◌else◌, IsErrOf, IsSomeAnd, Result, Ok, Err}
 use Rattle.std.specs.List.{slice_get}
 use Rattle.std.specs.Option.{option_and_then}
 use Rattle.std.proofs.lemmas.Bool.Decides.{nat_tests}
@@ -8,7 +8,6 @@ use Rattle.std.proofs.lemmas.Option.{slice_get_cases, slice_get_within, same_Som
 use Rattle.guest_memory.specs.Memory.{Inside}
 use Rattle.block_device.specs.declared.operation.Verdict.{Verdict}
 use Rattle.board.specs.declared.event.DeviceEvent.{DeviceEvent}
-use Rattle.board.specs.declared.event.DeviceEvent.TheVariants.{TakeSent}
 use Rattle.board.specs.declared.event.DeviceEvent.TheVariants.{Host as DiskTold}
 use Rattle.board.specs.declared.event.Event.{Event}
 use Rattle.board.specs.declared.event.EventKind.{EventKind}
@@ -25,8 +24,7 @@ use Rattle.block_device.specs.Flights.{InFlight, is_any}
 use Rattle.hosted_disk.specs.Told.{has_effect}
 use Rattle.device_list.specs.List.{disk_at}
 use Rattle.board.specs.Backing.{HostDisk, tags_in}
-use Rattle.device_list.specs.List.{sent_by}
-use Rattle.board.specs.Devices.{has_sent, reply_at, taken_reply, waits_for_disk}
+use Rattle.board.specs.Devices.{reply_at, waits_for_disk}
 use Rattle.board.specs.Hosting.{CompletionGives, DropGives, HoldGives, HostGives, HostOrGives, OwnGives, ReleaseGives, has_part, must_wait, told_in, waits_now}
 use Rattle.board.specs.Image.{Health}
 use Rattle.board.specs.Outcome.{Outcome, replies}
@@ -34,7 +32,7 @@ use Rattle.board.specs.Pausing.{Begins, asked, asked_over_image}
 use Rattle.board.specs.Restoring.{RestoresUnless}
 use Rattle.board.specs.Slot.{BoardSlot, SlotState, state_of}
 use Rattle.board.specs.Within.{MayPutOut}
-use Rattle.board.specs.World.{Answers, KeepsOthers, MayGive, MayGiveBy, MayGiveOverImage, MayLackMemory, extents_of}
+use Rattle.board.specs.World.{MayGive, MayGiveBy, MayGiveOverImage, MayLackMemory}
 use Rattle.board.proofs.Alone.{slot_step}
 use Rattle.board.specs.Waiting.{waits_beside}
 use Rattle.board.proofs.Waiting.{waited, waits_for_any}
@@ -44,9 +42,9 @@ use Rattle.session.specs.declared.refusal.Refusal.{Refusal}
 use Rattle.session.specs.declared.refusal.Refusal.TheVariants as refusal
 use Rattle.session.specs.declared.response.Response.{Response}
 use Rattle.session.specs.declared.response.Response.TheVariants.{Answered, More, Busy, Idle}
-use Rattle.session.specs.declared.typed.Typed.{Typed}
-use Rattle.session.specs.Answering.{Means, RefusalMeans, Suits, frame_response, served_response, taken_response, typed_by, typed_response}
-use Rattle.session.specs.Devices.{TakesNothing, sent_at}
+use Rattle.session.specs.declared.handed.Handed.{Handed}
+use Rattle.session.specs.Answering.{Means, RefusalMeans, handed_by, handed_response, served_response}
+use Rattle.session.specs.Devices.{TakesNothing}
 use Rattle.session.specs.Disks.{DiskHasNothing}
 use Rattle.session.specs.Operations.{HasNothing, HoldsUp, IsSpare}
 use Rattle.session.specs.Pacing.{Handle, response_to}
@@ -54,10 +52,10 @@ use Rattle.session.specs.Pausing.{ComesTo, IsBegun, IsEventCall, IsToldCall, IsW
 use Rattle.session.specs.Session.{AnswersInPlace, IsIdle, IsOutside, IsStep, SessionState, world_of}
 use Rattle.session.proofs.Access.{found_at}
 use Rattle.session.proofs.Calls.{call_of_step, called_busy}
-use Rattle.session.proofs.Devices.{bad_exact, idle_exact, never_lacks, step, taken_away, waiting_gives}
+use Rattle.session.proofs.Devices.{bad_exact, idle_exact, unanswered_asks, waiting_asks, waiting_gives}
 use Rattle.session.proofs.Parts.{asks_nothing}
 use Rattle.session.proofs.Steps.{lacks_puts}
-use Rattle.session.proofs.Suiting.{asks_none, never_busy, never_idle, never_paused, suits}
+use Rattle.session.proofs.Suiting.{asks_none, never_busy, never_idle, never_paused}
 use Rattle.session.proofs.Unchanged.{shown_at}
 
 -- ---- what waits for what is in flight, and what finds nothing in flight
@@ -154,7 +152,8 @@ own_asks state what holds = rw (held_part state.host state what refl holds) refl
 beside_asks : {A : Type 0} (state : SlotState) (what : EventKind A) → waits_beside what state ≡ true
     → asked what state ≡ None
 beside_asks {A} state (Restore bytes) waits = asks_nothing {A = A} (Restore bytes) state refl
-beside_asks {A} state (Device n what) waits = asks_nothing {A = A} (Device n what) state refl
+beside_asks {A} state (Device n what) waits =
+    asks_nothing {A = A} (Device n what) state (waiting_asks n what state waits)
 beside_asks state _ waits = absurd (cc (waits))
 
 held_asks : {A : Type 0} (state : SlotState) (what : EventKind A) → waits_for_any what state ≡ true
@@ -549,17 +548,13 @@ served_pure A progress.Done = refl
 served_pure A progress.More = refl
 served_pure A progress.Asks = refl
 
-typed_pure_by : (A : Type 0) (taken : ℕ) (came : Progress) → refusal_of {A = A} (typed_by taken came) ≡ None
-typed_pure_by A taken progress.Done = refl
-typed_pure_by A taken progress.More = refl
-typed_pure_by A taken progress.Asks = refl
+handed_pure_by : (A : Type 0) (taken : ℕ) (came : Progress) → refusal_of {A = A} (handed_by taken came) ≡ None
+handed_pure_by A taken progress.Done = refl
+handed_pure_by A taken progress.More = refl
+handed_pure_by A taken progress.Asks = refl
 
-pub typed_pure : (A : Type 0) (typed : Typed) → refusal_of {A = A} (typed_response typed) ≡ None
-typed_pure A typed = typed_pure_by A typed.taken typed.progress
-
-pub taken_pure : (A : Type 0) (frame : List ℕ) (taken : Bool) → refusal_of {A = A} (taken_response frame taken) ≡ None
-taken_pure A frame true = refl
-taken_pure A frame false = refl
+pub handed_pure : (A : Type 0) (handed : Handed) → refusal_of {A = A} (handed_response handed) ≡ None
+handed_pure A handed = handed_pure_by A handed.taken handed.progress
 
 -- an event that waits for nothing is busy where a service is paused
 pub only_paused : {A : Type 0} (old : SessionState) (slot : ℕ) (what : EventKind A) {P : Type 0}
@@ -595,8 +590,8 @@ module _ {A : Type 0} (old new : SessionState) (slot : ℕ) (what : EventKind A)
   IsSaid response =
       (refusal_of response ≡ Some why) ↔ (IsIdle slot old × IsSomeAnd (slice_get old.slots slot) P)
 
-  -- an event that asks for no service, of which a slot answers this refusal exactly where P holds of it
-  module _ (quiet : (state : SlotState) → asked_over_image what state ≡ None)
+  -- an event of which a slot answers this refusal exactly where P holds of it, and then asks for no service
+  module _ (quiet : (one : BoardSlot) → P one → asked_over_image what (state_of old.image one) ≡ None)
       (there_is : Some refusal.BadSlot ≡ Some why → ⊥) (free : Some refusal.Busy ≡ Some why → ⊥)
       (answers : (answer : Reply A) (one : BoardSlot) → Gave one old what answer
       → (refusal_of (Answered answer) ≡ Some why) ↔ P one) where
@@ -627,15 +622,26 @@ module _ {A : Type 0} (old new : SessionState) (slot : ℕ) (what : EventKind A)
     said_exact response (Some (Some pause)) is comes whole =
         rw (comes.0) (λ told. absurd (free told), λ says. absurd (paused_not old slot pause is (says.0)))
     said_exact (Answered answer) (Some None) is comes whole = said_here is answer whole
-    said_exact More (Some None) is comes whole = absurd (pauses_never comes.turn.taken.state _ _
-        comes.turn.taken.after comes.turn.output comes.turn.turn comes.turn.told comes.turn.taken.comes)
+    said_exact More (Some None) is comes whole = (
+      λ told. absurd (cc (told)),
+      λ says. absurd (pauses_never (found old new its many is) (there old new its many is) (says.1)),
+    )
       where
-        pauses_never : (state : SlotState) (before after : Health) (last : SlotState) (output : List ℕ)
-            (t : Turn A) → More ≡ response_to t
+        never : (state : SlotState) (before after : Health) (last : SlotState) (output : List ℕ)
+            (t : Turn A) → More ≡ response_to t → asked_over_image what state ≡ None
             → Begins what old.budget state before after last output t → ⊥
-        pauses_never state before after last output (turn.Answered reply) more h = cc (more)
-        pauses_never state before after last output (turn.More pause) more h =
-            asks_none what old.budget state before after last output pause (quiet state) h
+        never state before after last output (turn.Answered reply) more asks h = cc (more)
+        never state before after last output (turn.More pause) more asks h =
+            asks_none what old.budget state before after last output pause asks h
+
+        pauses_never : (one : BoardSlot) → slice_get old.slots slot ≡ Some one
+            → IsSomeAnd (slice_get old.slots slot) P → ⊥
+        pauses_never one here says =
+            let taken = comes.turn.taken in
+            let same : state_of old.image one ≡ taken.state =
+            same_Some _ taken.state (sym (shown_at old.slots old.image slot one here) ∙ taken.there) in
+            never taken.state _ _ taken.after comes.turn.output comes.turn.turn comes.turn.told
+            (subst (λ (s : SlotState). asked_over_image what s ≡ None) same (quiet one (rw here at says))) taken.comes
     said_exact Busy (Some None) is comes whole = absurd (never_busy comes.turn.turn (sym comes.turn.told))
     said_exact Idle (Some None) is comes whole = absurd (never_idle comes.turn.turn (sym comes.turn.told))
 
@@ -648,7 +654,7 @@ host_idle : {A : Type 0} (old new : SessionState) (slot : ℕ) (said : HostEvent
     → length old.paused ≡ length old.slots → (response : Response A) → IsEventCall old slot (Host said) response new
     → (refusal_of response ≡ Some refusal.Idle) ↔ (IsIdle slot old × HasNothing slot said old.slots)
 host_idle {A} old new slot said many =
-    said_call old new slot (Host said) many refusal.Idle (λ one. IsSpare said one.host one.on_hold) (λ state. refl)
+    said_call old new slot (Host said) many refusal.Idle (λ one. IsSpare said one.host one.on_hold) (λ one spare. refl)
     (λ is. cc (is)) (λ is. cc (is))
     (λ answer one came.
     let says = says_idle answer in
@@ -682,7 +688,8 @@ device_bad : {A : Type 0} (old new : SessionState) (slot n : ℕ) (what : Device
     → (refusal_of response ≡ Some refusal.BadDevice) ↔ (IsIdle slot old × TakesNothing slot n what old)
 device_bad {A} old new slot n what many =
     said_call old new slot (Device n what) many refusal.BadDevice
-    (λ one. reply_at n what (state_of old.image one) ≡ None) (λ state. refl) (λ is. cc (is)) (λ is. cc (is))
+    (λ one. reply_at n what (state_of old.image one) ≡ None)
+    (λ one none. unanswered_asks n what (state_of old.image one) none) (λ is. cc (is)) (λ is. cc (is))
     (λ answer one came.
     let says = says_bad_device answer in
     let exact = bad_exact n what (state_of old.image one) _ came.after came.outcome came.given in
@@ -696,7 +703,7 @@ pub device_idle : {A : Type 0} (old new : SessionState) (slot n : ℕ) (said : H
 device_idle {A} old new slot n said response r means many call =
     refused_when served_response response r refusal.Idle (served_pure A) means
     (said_call old new slot (Device n (DiskTold said)) many refusal.Idle
-    (λ one. IsSomeAnd (disk_at n one.devices) (λ disk. has_effect said disk ≡ false)) (λ state. refl)
+    (λ one. IsSomeAnd (disk_at n one.devices) (λ disk. has_effect said disk ≡ false)) (λ one none. refl)
     (λ is. cc (is)) (λ is. cc (is))
     (λ answer one came.
     let says = says_idle answer in
@@ -739,80 +746,6 @@ device_told old new slot n what response wanted r pure means many call = (
   record { response = response; call = call; told = means },
   device_refuses old new slot n what response wanted r pure means many call,
 )
-
--- a service of the slot is paused: the call is busy
-pub device_busy : {A T : Type 0} (old : SessionState) (slot n : ℕ) (what : DeviceEvent A)
-    (wanted : T → Response A) → ((value : T) → refusal_of (wanted value) ≡ None)
-    → length old.paused ≡ length old.slots → ¬ IsIdle slot old
-    → IsToldCall old slot (Device n what) (Means wanted (Err refusal.Busy)) old
-    × DeviceRefuses {A = A} {T = T} old slot n what (Err refusal.Busy)
-device_busy {A} old slot n what wanted pure many busy =
-    device_told {A = A} old old slot n what Busy wanted (Err refusal.Busy) pure (inl refl) many
-    (busy_call old slot (Device n what) busy)
-
--- it is a step
-pub stepped_call : {A T : Type 0} (old new : SessionState) (slot n : ℕ) (what : DeviceEvent A)
-    (wanted : T → Response A) → ((value : T) → refusal_of (wanted value) ≡ None)
-    → length old.paused ≡ length old.slots → IsIdle slot old → (answer : Reply A) (r : Result T Refusal)
-    → Means wanted r (Answered answer) → IsStep old (record { slot = slot; what = Device n what }) answer new
-    → IsToldCall old slot (Device n what) (Means wanted r) new × DeviceRefuses old slot n what r
-stepped_call old new slot n what wanted pure many idle answer r means step =
-    device_told old new slot n what (Answered answer) wanted r pure means many
-    (step_call old new slot (Device n what) answer many idle (λ state. refl) step)
-
--- as the board answers it by a slice, which takes no memory
-pub sliced_call : {A T : Type 0} {inside old : SessionState} → inside ≡ old → (slots : List BoardSlot) (slot n : ℕ)
-    (what : DeviceEvent A) (wanted : T → Response A) → ((value : T) → refusal_of (wanted value) ≡ None)
-    → length inside.paused ≡ length inside.slots → IsIdle slot old → (answer : Reply A) (r : Result T Refusal)
-    → Means wanted r (Answered answer)
-    → Answers {A = A} (world_of inside) (record { slot = slot; what = Device n what }) answer [] []
-    (world_of (record inside { slots = slots }))
-    → KeepsOthers slot inside.slots slots → extents_of slots ≡ extents_of inside.slots
-    → (Suits {A = A} (Device n what) reply.NoMemory → ⊥)
-    → IsToldCall old slot (Device n what) (Means wanted r) (record inside { slots = slots })
-    × DeviceRefuses old slot n what r
-sliced_call {A} {inside = inside} view slots slot n what wanted pure many idle answer r means answers others extents
-    never =
-    let new : SessionState = record inside { slots = slots } in
-    rw (← view)
-    (stepped_call inside new slot n what wanted pure many (rw (← view) at idle) answer r means
-    (step A inside new slot n what answer answers others extents refl
-    (never_lacks answer n what (suits answers) never)))
-
--- what was sent is taken away
-pub record SentCall (A : Type 0) (old new : SessionState) (slot n : ℕ) (taken : Bool) : Type 0 where
-  pub told :
-      IsToldCall {A = A} old slot (Device n TakeSent)
-      (Means (frame_response (sent_at slot n old.slots)) (Ok taken)) new
-  pub refuses : DeviceRefuses {A = A} old slot n TakeSent (Ok taken)
-  pub waited : IsTrue taken ↔ IsSome (sent_at slot n old.slots)
-
-pub sent_call : (A : Type 0) (old new : SessionState) (slot n : ℕ) (taken : Bool)
-    → length old.paused ≡ length old.slots → IsIdle slot old
-    → option_and_then (λ found. has_sent n found.devices) (slice_get old.slots slot) ≡ Some taken
-    → ((found : BoardSlot) → slice_get old.slots slot ≡ Some found
-    → Answers {A = A} (world_of old) (record { slot = slot; what = Device n TakeSent })
-    (taken_reply n found.devices) [] [] (world_of new))
-    → KeepsOthers slot old.slots new.slots → extents_of new.slots ≡ extents_of old.slots
-    → new ≡ record old { slots = new.slots } → SentCall A old new slot n taken
-sent_call A old new slot n taken many idle value answers others extents rest =
-    by_slot (slice_get old.slots slot) refl value
-  where
-    by_slot : (o : Option BoardSlot) → slice_get old.slots slot ≡ o
-        → option_and_then (λ found. has_sent n found.devices) o ≡ Some taken → SentCall A old new slot n taken
-    by_slot None here is = absurd (cc (is))
-    by_slot (Some found) here is =
-        let away = taken_away A n found.devices taken is in
-        let same : sent_at slot n old.slots ≡ sent_by n found.devices =
-        ap (option_and_then (λ (f : BoardSlot). sent_by n f.devices)) here in
-        let stepped = step A old new slot n TakeSent (taken_reply n found.devices) (answers found here) others
-        extents rest (λ lacks. absurd (cc (away.reply, lacks))) in
-        let means : Means {A = A} (frame_response (sent_at slot n old.slots)) (Ok taken)
-        (Answered (taken_reply n found.devices)) =
-        ap (λ (r : Reply A). Answered r) (away.reply ∙ ap (λ o. reply.Bytes (unwrap_or o [])) (sym same)) in
-        let both = stepped_call old new slot n TakeSent (frame_response (sent_at slot n old.slots)) (λ b. refl) many
-        idle (taken_reply n found.devices) (Ok taken) means stepped in
-        record { told = both.0; refuses = both.1; waited = rw same (away.waited) }
 
 -- ---- a range that doesn't lie in the memory
 

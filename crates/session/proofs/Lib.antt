@@ -18,6 +18,7 @@ pub mod Restored
 pub mod Telling
 pub mod Loans
 pub mod Parts
+pub mod Paused
 pub mod Exact
 pub mod Asking
 pub mod Kept

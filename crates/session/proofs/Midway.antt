@@ -1,19 +1,16 @@
 -- A service that is paused: its pieces so far, as one part of the service of the guest that is alone.
 use Rattle.std.proofs.Common.{◌≡◌, ℕ, false, Option, Some, None, List, [], ◌++◌, refl, sym, ap, subst, ◌∙◌, inl, inr, append_assoc, append-nil, arith}
 use Rattle.std.proofs.lemmas.Option.{same_Some}
-use Rattle.guest_memory.specs.Memory.{Memory}
 use Rattle.chain.specs.declared.budget.Budget.{Budget}
 use Rattle.chain.specs.declared.budget.Progress.{Progress}
 use Rattle.chain.specs.declared.budget.Progress.TheVariants as progress
-use Rattle.chain.specs.Service.{Device, Given}
+use Rattle.chain.specs.Service.{Given}
 use Rattle.chain.proofs.Simulating.{DoesAs}
-use Rattle.mmio_window.specs.declared.queue.Queue.{Queue}
 use Rattle.mmio_window.specs.declared.stage.Stage.{Stage}
 use Rattle.mmio_window.specs.declared.stage.Stage.TheVariants.{First, Next}
-use Rattle.mmio_window.specs.Pieces.{BeginsTo, GoesOnTo, IsFinishedWithin, IsPaused, ServesTo}
-use Rattle.mmio_window.specs.Serving.{IsNotified, Notified}
-use Rattle.mmio_window.specs.Window.{WindowState, queue_at}
-use Rattle.mmio_window.proofs.Pieces.{pauses_first, pauses_again, paused_to_end, queue_stands_open}
+use Rattle.mmio_window.specs.Pieces.{ServesTo}
+use Rattle.mmio_window.specs.Window.{queue_at}
+use Rattle.mmio_window.proofs.Underway.{OnItsWay, again, ended, first}
 use Rattle.sector_cache.specs.Disk.{Disk}
 use Rattle.block_device.specs.declared.device.BlockDevice.{BlockDevice}
 use Rattle.block_device.specs.Device.{exact_device}
@@ -21,84 +18,33 @@ use Rattle.block_device.specs.Extent.{SameSectors}
 use Rattle.block_device.proofs.Guests.{exact_same}
 use Rattle.console_device.specs.Device.{receive, exact_transmit}
 use Rattle.console_device.specs.Input.{fitting}
+use Rattle.device_list.specs.Device.{ServesDevice}
+use Rattle.device_list.specs.List.{At}
+use Rattle.device_list.proofs.Pieces.{DevicesUnderWay, devices_again, devices_ended, devices_first}
+use Rattle.board.specs.declared.event.DeviceEvent.{DeviceEvent}
 use Rattle.board.specs.declared.event.EventKind.{EventKind}
-use Rattle.board.specs.declared.event.EventKind.TheVariants.{Write, Input}
+use Rattle.board.specs.declared.event.EventKind.TheVariants.{Write, Input, Device}
 use Rattle.board.specs.declared.pause.Pause.{Pause}
 use Rattle.board.specs.declared.pause.Service.{Service}
-use Rattle.board.specs.declared.pause.Service.TheVariants.{Block, Receive, Transmit}
+use Rattle.board.specs.declared.pause.Service.TheVariants.{Block, Receive, Transmit, Further}
 use Rattle.board.specs.declared.reply.Reply.{Reply}
 use Rattle.board.specs.declared.reply.Reply.TheVariants.{Done, Took}
 use Rattle.board.specs.Image.{Health, health_of, sectors_of, disk_with}
 use Rattle.board.specs.Backing.{HostDisk}
 use Rattle.board.specs.Hosting.{has_part, is_block_task, notifies_block}
-use Rattle.board.specs.Machine.{GivesBy, GivesOverImage, IsNext, at_rest, task_at, with_input, with_write}
-use Rattle.board.specs.Outcome.{Outcome}
-use Rattle.board.specs.Pausing.{IsBlockPiece, IsPiece, IsReceivePiece, IsTransmitPiece, asked, asked_by, asked_over_image, is_hosts, readied, reply_of}
+use Rattle.board.specs.Machine.{GivesBy, GivesOverImage, IsNext, action_at, at_rest, task_at, with_input, with_write}
+use Rattle.board.specs.Outcome.{Outcome, replies}
+use Rattle.board.specs.Pausing.{IsBlockPiece, IsFurtherPiece, IsPiece, IsReceivePiece, IsTransmitPiece, asked, asked_by, asked_over_image, is_hosts, readied, reply_by, reply_of}
 use Rattle.board.specs.Slot.{SlotState}
 use Rattle.board.specs.declared.task.Task.{Task}
 use Rattle.board.specs.declared.task.Task.TheVariants.{Nothing, Serve, PutOut}
 use Rattle.board.specs.Task.{Finishes, IsBlockService, IsReceiveService, IsTransmitService, device_of}
 use Rattle.board.proofs.Alike.{PieceAs, piece_as}
 use Rattle.board.proofs.Guests.{same_disk}
-use Rattle.board.proofs.Identities.{readied_fixed}
 use Rattle.board.proofs.OnHost.{is_beside, passes}
-use Rattle.board.proofs.Whole.{came}
-use Rattle.session.proofs.Parts.{asks_freely, serves_itself}
-
--- ---- a queue, for any device
-
-module _ {State : Type 0} (device : Device State) (q : ℕ) where
-  -- It is served in pieces, and stands open.
-  pub record OnItsWay (old new : Memory) (before after : WindowState) (s s' : State) : Type 0 where
-    pub queue : Queue
-    pub there : queue_at q before ≡ Some queue
-    pub paused : IsPaused device q queue old new before after s s'
-
-  first_at : (budget : Budget) (found : Option Queue) (m0 m1 : Memory) (w0 w1 : WindowState) (s0 s1 : State)
-      → queue_at q w0 ≡ found → BeginsTo device budget q found progress.More m0 m1 w0 w1 s0 s1
-      → OnItsWay m0 m1 w0 w1 s0 s1
-  first_at budget None m0 m1 w0 w1 s0 s1 is h = absurd h
-  first_at budget (Some queue) m0 m1 w0 w1 s0 s1 is h =
-      record { queue = queue; there = is; paused = pauses_first device budget q queue m0 m1 w0 w1 s0 s1 h }
-
-  pub first : (budget : Budget) {m0 m1 : Memory} {w0 w1 : WindowState} {s0 s1 : State}
-      → BeginsTo device budget q (queue_at q w0) progress.More m0 m1 w0 w1 s0 s1 → OnItsWay m0 m1 w0 w1 s0 s1
-  first budget {m0} {m1} {w0} {w1} {s0} {s1} h = first_at budget (queue_at q w0) m0 m1 w0 w1 s0 s1 refl h
-
-  -- the queue that goes on is the one that stands open
-  open_now : (m0 m1 : Memory) (w0 w1 : WindowState) (s0 s1 : State) → (way : OnItsWay m0 m1 w0 w1 s0 s1)
-      → queue_at q w1 ≡ Some way.paused.last
-  open_now m0 m1 w0 w1 s0 s1 way = ap (λ w. queue_at q w) way.paused.window
-      ∙ queue_stands_open q w0 way.queue way.paused.last way.there
-
-  pub again : (budget : Budget) {m0 m1 m2 : Memory} {w0 w1 w2 : WindowState} {s0 s1 s2 : State}
-      → OnItsWay m0 m1 w0 w1 s0 s1 → GoesOnTo device budget q (queue_at q w1) progress.More m1 m2 w1 w2 s1 s2
-      → OnItsWay m0 m2 w0 w2 s0 s2
-  again budget {m0} {m1} {m2} {w0} {w1} {w2} {s0} {s1} {s2} way h = record {
-    queue = way.queue;
-    there = way.there;
-    paused =
-        pauses_again device budget q way.queue m0 m1 m2 w0 w1 w2 s0 s1 s2 way.paused
-        (subst (λ (f : Option Queue). GoesOnTo device budget q f progress.More m1 m2 w1 w2 s1 s2)
-        (open_now m0 m1 w0 w1 s0 s1 way) h);
-  }
-
-  -- At its end it is one service.
-  pub ended : (budget : Budget) {m0 m1 m2 : Memory} {w0 w1 w2 : WindowState} {s0 s1 s2 : State}
-      → OnItsWay m0 m1 w0 w1 s0 s1 → GoesOnTo device budget q (queue_at q w1) progress.Done m1 m2 w1 w2 s1 s2
-      → IsNotified device q (queue_at q w0) m0 m2 w0 w2 s0 s2
-  ended budget {m0} {m1} {m2} {w0} {w1} {w2} {s0} {s1} {s2} way h =
-      let f : IsFinishedWithin device budget q (Some way.paused.last) m1 m2 w1 w2 s1 s2 =
-      subst (λ (f : Option Queue). GoesOnTo device budget q f progress.Done m1 m2 w1 w2 s1 s2)
-      (open_now m0 m1 w0 w1 s0 s1 way) h in
-      record {
-        ending = f.ending;
-        notified =
-            subst (λ (found : Option Queue). Notified device q found f.ending m0 m2 w0 w2 s0
-            s2) (sym way.there)
-            (paused_to_end device budget q way.queue f.ending m0 m1 m2 w0 w1 w2 s0 s1 s2
-            way.paused f.finished);
-      }
+use Rattle.board.proofs.FurtherPieces.{Asking, asking, gives_at}
+use Rattle.board.proofs.Whole.{came, none_further}
+use Rattle.session.proofs.Parts.{asks_freely, readied_host, serves_itself}
 
 -- ---- the block device, from its image at rest
 
@@ -207,6 +153,22 @@ transmit_next budget progress now out new output h =
     subst (λ (all : List ℕ). ServesTo Next exact_transmit budget 1 (queue_at 1 now.console) progress
     now.memory new.memory now.console new.console out all) p.alike p.served
 
+-- ---- a queue of a further device
+
+pub record FurtherWay (n q : ℕ) (mid now : SlotState) (out : List ℕ) : Type 0 where
+  pub way : DevicesUnderWay n q mid.memory now.memory mid.devices now.devices
+  pub is : now ≡ record mid { memory = now.memory; devices = now.devices }
+  pub silent : out ≡ []
+
+abbrev with_further : SlotState → SlotState → SlotState
+with_further mid new = record mid { memory = new.memory; devices = new.devices }
+
+-- at its end it was served
+record FurtherEnded (n q : ℕ) (mid new : SlotState) (out : List ℕ) : Type 0 where
+  served : At (ServesDevice q) n mid.memory new.memory mid.devices new.devices
+  is : new ≡ record mid { memory = new.memory; devices = new.devices }
+  silent : out ≡ []
+
 -- ---- the first piece of a service
 
 module _ {budget : Budget} {mid new : SlotState} {before after : Health} {output : List ℕ} where
@@ -231,6 +193,14 @@ module _ {budget : Budget} {mid new : SlotState} {before after : Health} {output
   transmit_first : IsTransmitPiece First budget progress.More mid before after new output
       → TransmitWay mid new output
   transmit_first h = record { way = first exact_transmit 1 budget h.served; is = h.is }
+
+  further_first : (n q : ℕ) → IsFurtherPiece n q First budget progress.More mid before after new output
+      → FurtherWay n q mid new output
+  further_first n q h = record {
+    way = devices_first budget n q mid.memory new.memory mid.devices new.devices h.served;
+    is = h.is;
+    silent = h.silent;
+  }
 
 -- ---- a piece that goes on
 
@@ -279,6 +249,16 @@ module _ {budget : Budget} {mid now new : SlotState} {before after : Health} {ou
     is = h.is ∙ ap (λ (s : SlotState). with_transmit s new) w.is;
   }
 
+  further_again : (n q : ℕ) → FurtherWay n q mid now out
+      → IsFurtherPiece n q Next budget progress.More now before after new output
+      → FurtherWay n q mid new (out ++ output)
+  further_again n q w h = record {
+    way = devices_again budget n q mid.memory now.memory new.memory mid.devices now.devices new.devices w.way
+        h.served;
+    is = h.is ∙ ap (λ (s : SlotState). with_further s new) w.is;
+    silent = silent_both out output w.silent h.silent;
+  }
+
   -- ---- and the last one
 
   block_ended : (A : Type 0) → BlockWay mid now out
@@ -316,12 +296,23 @@ module _ {budget : Budget} {mid now new : SlotState} {before after : Health} {ou
     image = refl;
   }
 
+  further_ended : (n q : ℕ) → FurtherWay n q mid now out
+      → IsFurtherPiece n q Next budget progress.Done now before after new output
+      → FurtherEnded n q mid new (out ++ output)
+  further_ended n q w h = record {
+    served = devices_ended budget n q mid.memory now.memory new.memory mid.devices now.devices new.devices w.way
+        h.served;
+    is = h.is ∙ ap (λ (s : SlotState). with_further s new) w.is;
+    silent = silent_both out output w.silent h.silent;
+  }
+
 -- ---- any service
 
 abbrev pub Way : Service → SlotState → SlotState → List ℕ → Type 0
 Way Block mid now out = BlockWay mid now out
 Way Receive mid now out = ReceiveWay mid now out
 Way Transmit mid now out = TransmitWay mid now out
+Way (Further n q) mid now out = FurtherWay n q mid now out
 
 pub way_first : (service : Service) (budget : Budget) (mid : SlotState) (before after : Health)
     (new : SlotState) (output : List ℕ) → after.failures ≡ before.failures
@@ -334,6 +325,8 @@ way_first Receive budget mid before after new output stood h =
     receive_first h
 way_first Transmit budget mid before after new output stood h =
     transmit_first h
+way_first (Further n q) budget mid before after new output stood h =
+    further_first n q h
 
 pub way_again : (service : Service) (budget : Budget) (mid now : SlotState) (out : List ℕ)
     (before after : Health) (new : SlotState) (output : List ℕ) → after.failures ≡ before.failures
@@ -348,6 +341,8 @@ way_again Receive budget mid now out before after new output stood w h =
     receive_again w h
 way_again Transmit budget mid now out before after new output stood w h =
     transmit_again w h
+way_again (Further n q) budget mid now out before after new output stood w h =
+    further_again n q w h
 
 -- ---- at its end
 
@@ -356,6 +351,7 @@ Ended A Block mid new out = BlockEnded A mid new out
 Ended A Receive mid new out = (reply : Reply A)
     → IsReceiveService mid reply at_rest at_rest (came new reply out)
 Ended A Transmit mid new out = IsTransmitService {A = A} mid at_rest at_rest (came new Done out)
+Ended A (Further n q) mid new out = FurtherEnded n q mid new out
 
 way_ended : (A : Type 0) (service : Service) (budget : Budget) (mid now : SlotState) (out : List ℕ)
     (before after : Health) (new : SlotState) (output : List ℕ) → after.failures ≡ before.failures
@@ -370,6 +366,8 @@ way_ended A Receive budget mid now out before after new output stood w h =
     λ reply. receive_ended reply w h
 way_ended A Transmit budget mid now out before after new output stood w h =
     transmit_ended A w h
+way_ended A (Further n q) budget mid now out before after new output stood w h =
+    further_ended n q w h
 
 record Finished {A : Type 0} (task : Task) (mid : SlotState) (outcome : Outcome A) : Type 0 where
   after : Health
@@ -377,29 +375,48 @@ record Finished {A : Type 0} (task : Task) (mid : SlotState) (outcome : Outcome 
   -- the image has no part in the other services
   rests : is_block_task task ≡ false → after ≡ at_rest
 
+-- of a task that is no further device's
 finished : {A : Type 0} (task : Task) (pause : Pause) (mid new : SlotState) (out : List ℕ)
+    → ((n q : ℕ) → task ≡ Serve (Further n q) → ⊥)
     → asked_by task ≡ Some pause → Ended A pause.service mid new out
     → Finished {A = A} task mid (came new (reply_of pause) out)
-finished Nothing pause mid new out asks = absurd (cc)
-finished {A} (Serve Block) pause mid new out asks =
+finished Nothing pause mid new out own asks = absurd (cc)
+finished {A} (Serve Block) pause mid new out own asks =
     subst (λ (p : Pause). Ended A p.service mid new out
     → Finished {A = A} (Serve Block) mid (came new (reply_of p) out)) (same_Some _ pause asks)
     (λ e. record { after = e.health; finishes = e.service; rests = λ other. absurd (cc (other)) })
-finished {A} (Serve Receive) pause mid new out asks =
+finished {A} (Serve Receive) pause mid new out own asks =
     subst (λ (p : Pause). Ended A p.service mid new out
     → Finished {A = A} (Serve Receive) mid (came new (reply_of p) out)) (same_Some _ pause asks)
     (λ e. record { after = at_rest; finishes = e Done; rests = λ other. refl })
-finished {A} (Serve Transmit) pause mid new out asks =
+finished {A} (Serve Transmit) pause mid new out own asks =
     subst (λ (p : Pause). Ended A p.service mid new out
     → Finished {A = A} (Serve Transmit) mid (came new (reply_of p) out)) (same_Some _ pause asks)
     (λ e. record { after = at_rest; finishes = e; rests = λ other. refl })
-finished (PutOut byte) pause mid new out asks = absurd (cc)
+finished {A} (Serve (Further n q)) pause mid new out own asks = absurd (own n q refl)
+finished (PutOut byte) pause mid new out own asks = absurd (cc)
 
 -- what comes of an event over an image
 record Gave {A : Type 0} (what : EventKind A) (state : SlotState) (outcome : Outcome A) : Type 0 where
   after : Health
   gives : GivesOverImage state what at_rest after outcome
   rests : notifies_block what state ≡ false → after ≡ at_rest
+
+-- of what is done to a further device
+further_gave : {A : Type 0} (n : ℕ) (what : DeviceEvent A) (state : SlotState) (pause : Pause)
+    (a : Asking n what state pause) (new : SlotState) (out : List ℕ)
+    → FurtherEnded n a.queue (readied (Device n what) state) new out
+    → Gave (Device n what) state (came new (reply_by a.taken) out)
+further_gave {A} n what state pause a new out e =
+    let is : came {A = A} new (reply_by a.taken) out
+    ≡ replies (record state { memory = new.memory; devices = new.devices }) (reply_by a.taken) =
+    same_came new (with_further (readied (Device n what) state) new) (reply_by a.taken) out [] e.is e.silent in
+    record {
+      after = at_rest;
+      gives = subst (λ (o : Outcome A). GivesOverImage state (Device n what) at_rest at_rest o) (sym is)
+          (gives_at n what state pause a at_rest new.memory new.devices e.served);
+      rests = λ quiet. refl;
+    }
 
 gave : {A : Type 0} (what : EventKind A) (state : SlotState) (pause : Pause) (new : SlotState)
     (out : List ℕ) → asked_over_image what state ≡ Some pause
@@ -409,7 +426,8 @@ gave {A} (Write window offset width value) state pause new out asks e =
     let f : Finished {A = A} (task_at window offset width value state)
     (with_write window offset width value state) (came new (reply_of pause) out) =
     finished (task_at window offset width value state) pause
-    (with_write window offset width value state) new out asks e in
+    (with_write window offset width value state) new out
+    (none_further window (action_at window offset width value state)) asks e in
     record { after = f.after; gives = f.finishes; rests = f.rests }
 gave {A} (Input bytes) state pause new out asks e =
     subst (λ (p : Pause). Ended A p.service (with_input bytes state) new out
@@ -419,6 +437,11 @@ gave {A} (Input bytes) state pause new out asks e =
       gives = e (Took (fitting state.pending bytes));
       rests = λ quiet. refl;
     }) e
+gave {A} (Device n what) state pause new out asks e =
+    let a = asking n what state pause asks in
+    subst (λ (p : Pause). Ended A p.service (readied (Device n what) state) new out
+    → Gave (Device n what) state (came new (reply_of p) out)) (sym a.is)
+    (further_gave n what state pause a new out) e
 gave what state pause new out asks e = absurd (cc)
 
 -- and whoever has the guest's disk
@@ -471,11 +494,12 @@ way_host : (service : Service) (mid now : SlotState) (out : List ℕ) → Way se
 way_host Block mid now out w = ap (λ (s : SlotState). s.host) w.is
 way_host Receive mid now out w = ap (λ (s : SlotState). s.host) w.is
 way_host Transmit mid now out w = ap (λ (s : SlotState). s.host) w.is
+way_host (Further n q) mid now out w = ap (λ (s : SlotState). s.host) w.is
 
 pub goes_by_piece : {A : Type 0} (what : EventKind A) (state : SlotState) (pause : Pause) (now : SlotState)
     (out : List ℕ) → asked what state ≡ Some pause → Way pause.service (readied what state) now out
     → is_hosts now.host pause.service ≡ false
 goes_by_piece what state pause now out asks w =
     ap (λ (host : Option HostDisk). is_hosts host pause.service)
-    (way_host pause.service (readied what state) now out w ∙ (readied_fixed what state).host)
+    (way_host pause.service (readied what state) now out w ∙ readied_host what state)
     ∙ serves_itself what state pause asks

@@ -10,7 +10,7 @@ use Rattle.mmio_window.specs.declared.stage.Stage.TheVariants.{First, Next}
 use Rattle.board.specs.declared.event.EventKind.{EventKind}
 use Rattle.board.specs.declared.pause.Pause.{Pause}
 use Rattle.board.specs.declared.pause.Service.{Service}
-use Rattle.board.specs.declared.pause.Service.TheVariants.{Block, Receive, Transmit}
+use Rattle.board.specs.declared.pause.Service.TheVariants.{Block, Receive, Transmit, Further}
 use Rattle.board.specs.declared.pause.Turn.{Turn}
 use Rattle.board.specs.declared.pause.Turn.TheVariants as turn
 use Rattle.board.specs.declared.reply.Reply.TheVariants.{Done, NoMemory}
@@ -40,6 +40,8 @@ piece_rises Block stage budget progress old before after new output (inr h) = le
 piece_rises Receive stage budget progress old before after new output h = let same =
     ap (λ (x : Health). x.failures) h.image in omega (arith, same)
 piece_rises Transmit stage budget progress old before after new output h = let same =
+    ap (λ (x : Health). x.failures) h.image in omega (arith, same)
+piece_rises (Further n q) stage budget progress old before after new output h = let same =
     ap (λ (x : Health). x.failures) h.image in omega (arith, same)
 
 comes_rises : {A : Type 0} (pause : Pause) (stage : Stage) (budget : Budget) (old : SlotState)

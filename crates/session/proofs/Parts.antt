@@ -1,23 +1,26 @@
 -- Events in which the host of a guest's disk has no part.
-use Rattle.std.proofs.Common.{◌≡◌, Bool, true, false, Option, Some, None, refl, sym, ◌∙◌, ap}
+use Rattle.std.proofs.Common.{◌≡◌, ℕ, Bool, true, false, Option, Some, None, refl, sym, ◌∙◌, ap}
 use Rattle.std.specs.Prelude.{◌&&◌, ◌||◌, if◌then◌else◌}
 use Rattle.std.proofs.lemmas.Option.{same_Some}
 use Rattle.board.specs.declared.event.EventKind.{EventKind}
-use Rattle.board.specs.declared.event.EventKind.TheVariants.{Write, Input}
+use Rattle.board.specs.declared.event.EventKind.TheVariants.{Write, Input, Device}
+use Rattle.board.specs.declared.event.SlotWindow.{SlotWindow}
+use Rattle.board.specs.declared.event.SlotWindow.TheVariants as slot_window
 use Rattle.board.specs.declared.pause.Pause.{Pause}
 use Rattle.board.specs.declared.pause.Service.{Service}
-use Rattle.board.specs.declared.pause.Service.TheVariants.{Block, Receive, Transmit}
+use Rattle.board.specs.declared.pause.Service.TheVariants.{Block, Receive, Transmit, Further}
 use Rattle.block_device.specs.Flights.{is_any}
 use Rattle.board.specs.Backing.{HostDisk, tags_in}
 use Rattle.board.specs.Hosting.{has_part, is_block_task, must_wait, notifies_block, told_in}
 use Rattle.board.specs.Image.{Health}
-use Rattle.board.specs.Machine.{task_at}
+use Rattle.board.specs.Machine.{readied, task_at, with_write}
 use Rattle.board.specs.Outcome.{Outcome}
 use Rattle.board.specs.Pausing.{asked, asked_by, asked_over_image, is_hosts}
 use Rattle.board.specs.Slot.{SlotState}
 use Rattle.board.specs.declared.task.Task.{Task}
 use Rattle.board.specs.declared.task.Task.TheVariants.{Nothing, Serve, PutOut}
 use Rattle.board.specs.World.{MayGive, MayGiveOverImage}
+use Rattle.board.proofs.FurtherPieces.{asking}
 use Rattle.board.proofs.OnHost.{passes_by, ringing_part}
 
 -- one that is an own one, waits for nothing, and doesn't notify the block device
@@ -73,6 +76,9 @@ block_task (Serve Receive) pause asks is =
 block_task (Serve Transmit) pause asks is =
     let other : Transmit ≡ Block = ap (λ (p : Pause). p.service) (same_Some _ pause asks) ∙ is in
     absurd (cc (other))
+block_task (Serve (Further n q)) pause asks is =
+    let other : Further n q ≡ Block = ap (λ (p : Pause). p.service) (same_Some _ pause asks) ∙ is in
+    absurd (cc (other))
 block_task (PutOut byte) pause asks is = absurd (cc (asks))
 
 block_rings : {A : Type 0} (what : EventKind A) (state : SlotState) (pause : Pause)
@@ -81,6 +87,10 @@ block_rings (Write window offset width value) state pause asks is =
     block_task (task_at window offset width value state) pause asks is
 block_rings (Input bytes) state pause asks is =
     let other : Receive ≡ Block = ap (λ (p : Pause). p.service) (same_Some _ pause asks) ∙ is in
+    absurd (cc (other))
+block_rings (Device n what) state pause asks is =
+    let a = asking n what state pause asks in
+    let other : Further n a.queue ≡ Block = sym (ap (λ (p : Pause). p.service) a.is) ∙ is in
     absurd (cc (other))
 block_rings what state pause asks is = absurd (cc (asks))
 
@@ -99,3 +109,16 @@ serves_itself {A} what state pause asks = by_host state.host pause.service refl 
         absurd (ringing_part disk what state (block_rings what state pause freely.asks which) free)
     by_host (Some disk) Receive is which = refl
     by_host (Some disk) Transmit is which = refl
+    by_host (Some disk) (Further n q) is which = refl
+
+-- ---- and what it finds as it begins
+
+write_host : (window : SlotWindow) (offset width value : ℕ) (state : SlotState)
+    → (with_write window offset width value state).host ≡ state.host
+write_host slot_window.Block offset width value state = refl
+write_host slot_window.Console offset width value state = refl
+
+-- the same has the disk, and has the same in flight of it
+pub readied_host : {A : Type 0} (what : EventKind A) (state : SlotState) → (readied what state).host ≡ state.host
+readied_host (Write window offset width value) state = write_host window offset width value state
+readied_host what state = refl

@@ -5,7 +5,8 @@ use Rattle.std.specs.List.{slice_get}
 use Rattle.chain.specs.declared.budget.Budget.{Budget}
 use Rattle.board.specs.declared.event.Event.{Event}
 use Rattle.board.specs.declared.event.EventKind.{EventKind}
-use Rattle.board.specs.declared.event.EventKind.TheVariants.{Write, MemRead, MemWrite, Input, Host}
+use Rattle.board.specs.declared.event.EventKind.TheVariants.{Write, MemRead, MemWrite, Input, Host, Device}
+use Rattle.board.specs.declared.event.DeviceEvent.TheVariants as device
 use Rattle.board.specs.declared.pause.Turn.{Turn}
 use Rattle.board.specs.declared.pause.Turn.TheVariants as turn
 use Rattle.board.specs.declared.reply.Reply.{Reply}
@@ -134,6 +135,11 @@ pub paused_suits : {A : Type 0} (what : EventKind A) (budget : Budget) (state : 
 paused_suits (Write window offset width value) budget state before after new output (turn.More pause) told h =
     tt
 paused_suits (Input bytes) budget state before after new output (turn.More pause) told h = tt
+paused_suits (Device n (device.Write offset width value)) budget state before after new output (turn.More pause) told h =
+    tt
+paused_suits (Device n (device.Supply bytes)) budget state before after new output (turn.More pause) told h = tt
+paused_suits (Device n (device.Receive frame)) budget state before after new output (turn.More pause) told h = tt
+paused_suits (Device n device.DropSent) budget state before after new output (turn.More pause) told h = tt
 paused_suits what budget state before after new output (turn.Answered reply) told h = absurd (cc (told))
 paused_suits what budget state before after new output (turn.More pause) told h =
     asks_none what budget state before after new output pause refl h

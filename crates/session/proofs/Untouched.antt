@@ -88,6 +88,7 @@ event_asks : {A : Type 0} (what : EventKind A) (state : SlotState) → touches_m
     → asked_over_image what state ≡ None
 event_asks (Write window offset width value) state none = task_asks (task_at window offset width value state) none
 event_asks (Input bytes) state none = absurd (cc (none))
+event_asks (Device n what) state none = absurd (cc (none))
 event_asks what state none = refl
 
 -- so it is answered at once

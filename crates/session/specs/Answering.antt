@@ -1,7 +1,8 @@
 -- What a call answers, as the board's response to its event.
-use Rattle.std.specs.Prelude.{◌≡◌, ◌⊎◌, ℕ, Bool, true, false, List, [], length, ⊤, Option, unwrap_or, Result, Ok, Err}
+use Rattle.std.specs.Prelude.{◌≡◌, ◌⊎◌, ℕ, List, ⊤, Result, Ok, Err}
 use Rattle.board.specs.declared.event.EventKind.{EventKind}
-use Rattle.board.specs.declared.event.EventKind.TheVariants.{Write, Input}
+use Rattle.board.specs.declared.event.EventKind.TheVariants.{Write, Input, Device}
+use Rattle.board.specs.declared.event.DeviceEvent.TheVariants as device
 use Rattle.board.specs.declared.reply.Reply.{Reply}
 use Rattle.board.specs.declared.reply.Reply.TheVariants as reply
 use Rattle.board.specs.Replies.{MayReply}
@@ -13,7 +14,7 @@ use Rattle.session.specs.declared.response.Response.{Response}
 use Rattle.session.specs.declared.response.Response.TheVariants as response
 use Rattle.session.specs.declared.refusal.Refusal.{Refusal}
 use Rattle.session.specs.declared.refusal.Refusal.TheVariants.{BadSlot, BadRange, BadDevice, NoRoom, Busy, Idle}
-use Rattle.session.specs.declared.typed.Typed.{Typed}
+use Rattle.session.specs.declared.handed.Handed.{Handed}
 
 -- The response that a refusal stands for. Where an outlet has no room the board has no memory for the output.
 -- A slot is busy where a service of it is paused, and where the event waits for what is in flight.
@@ -52,26 +53,16 @@ abbrev pub IsDoneOrRefusing : {A : Type 0} → Response A → Type 0
 IsDoneOrRefusing (response.Answered reply.Done) = ⊤
 IsDoneOrRefusing told = IsRefusing told
 
--- or one that says how many bytes were taken that were typed, or that their service is paused
-abbrev pub IsTyping : {A : Type 0} → Response A → Type 0
-IsTyping (response.Answered (reply.Took taken)) = ⊤
-IsTyping response.More = ⊤
-IsTyping told = IsRefusing told
+-- or one that says how many bytes were taken that were handed in or over, or that their service is paused
+abbrev pub IsHanding : {A : Type 0} → Response A → Type 0
+IsHanding (response.Answered (reply.Took taken)) = ⊤
+IsHanding response.More = ⊤
+IsHanding told = IsRefusing told
 
 -- or one that says what a register gave
 abbrev pub IsReading : {A : Type 0} → Response A → Type 0
 IsReading (response.Answered (reply.Value value)) = ⊤
 IsReading told = IsRefusing told
-
--- or one that says how many bytes a further device took
-abbrev pub IsTaking : {A : Type 0} → Response A → Type 0
-IsTaking (response.Answered (reply.Took taken)) = ⊤
-IsTaking told = IsRefusing told
-
--- or one that says that a frame was taken whole, or that there was no room for it
-abbrev pub IsTakenWhole : {A : Type 0} → List ℕ → Reply A → Type 0
-IsTakenWhole frame (reply.Took taken) = (taken ≡ length frame) ⊎ (taken ≡ 0)
-IsTakenWhole frame answer = IsRefusing (response.Answered answer)
 
 -- the response to a read of a window that gave this
 abbrev pub value_response : {A : Type 0} → ℕ → Response A
@@ -91,27 +82,14 @@ served_response progress.Asks = response.Answered reply.Done
 abbrev pub bytes_response : {A : Type 0} → List ℕ → Unit {0} → Response A
 bytes_response bytes done = response.Answered (reply.Bytes bytes)
 
--- to bytes of which a further device took so many
-abbrev pub took_response : {A : Type 0} → ℕ → Response A
-took_response taken = response.Answered (reply.Took taken)
+-- and to what is handed in, typed bytes, random ones or a frame, or over to the host, of which so many bytes were taken
+abbrev pub handed_by : {A : Type 0} → ℕ → Progress → Response A
+handed_by taken progress.Done = response.Answered (reply.Took taken)
+handed_by taken progress.More = response.More
+handed_by taken progress.Asks = response.Answered (reply.Took taken)
 
--- to a frame that a network card took whole, or for which it had no room
-abbrev pub taken_response : {A : Type 0} → List ℕ → Bool → Response A
-taken_response frame true = response.Answered (reply.Took (length frame))
-taken_response frame false = response.Answered (reply.Took 0)
-
--- to the taking of the oldest frame that a network card's driver sent: no bytes where none waited
-abbrev pub frame_response : {A : Type 0} → Option (List ℕ) → Bool → Response A
-frame_response oldest taken = response.Answered (reply.Bytes (unwrap_or oldest []))
-
--- and to what is typed, of which so many bytes were taken
-abbrev pub typed_by : {A : Type 0} → ℕ → Progress → Response A
-typed_by taken progress.Done = response.Answered (reply.Took taken)
-typed_by taken progress.More = response.More
-typed_by taken progress.Asks = response.Answered (reply.Took taken)
-
-abbrev pub typed_response : {A : Type 0} → Typed → Response A
-typed_response typed = typed_by typed.taken typed.progress
+abbrev pub handed_response : {A : Type 0} → Handed → Response A
+handed_response handed = handed_by handed.taken handed.progress
 
 -- what is told of a service that went on: the end of it, which one that isn't paused has reached
 abbrev pub went_on_to : {A : Type 0} → Response A → Result Progress Refusal
@@ -132,6 +110,10 @@ abbrev pub SuitsCall : {A : Type 0} → EventKind A → Response A → Type 0
 SuitsCall what (response.Answered answer) = Suits what answer
 SuitsCall (Write window offset width value) response.More = ⊤
 SuitsCall (Input bytes) response.More = ⊤
+SuitsCall (Device n (device.Write offset width value)) response.More = ⊤
+SuitsCall (Device n (device.Supply bytes)) response.More = ⊤
+SuitsCall (Device n (device.Receive frame)) response.More = ⊤
+SuitsCall (Device n device.DropSent) response.More = ⊤
 SuitsCall what response.More = ⊥
 SuitsCall what response.Busy = ⊤
 SuitsCall what response.Idle = ⊥

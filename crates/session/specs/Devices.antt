@@ -1,7 +1,7 @@
 -- A slot's further devices, as a session's calls see them.
 use Rattle.std.specs.Prelude.{◌≡◌, ℕ, Option, None, List, length, unwrap_or, IsSomeAnd}
 use Rattle.std.specs.List.{slice_get}
-use Rattle.std.specs.Option.{option_and_then, option_map}
+use Rattle.std.specs.Option.{option_and_then, option_map, option_map_or}
 use Rattle.mmio_window.specs.Interrupts.{interrupt_bits}
 use Rattle.block_device.specs.Flights.{taken_bits}
 use Rattle.device_list.specs.Device.{DeviceState}
@@ -15,6 +15,10 @@ use Rattle.session.specs.Session.{SessionState}
 -- what the driver of a slot's device of this number sent and its host takes now
 abbrev pub sent_at : ℕ → ℕ → List BoardSlot → Option (List ℕ)
 sent_at slot device slots = option_and_then (λ found. sent_by device found.devices) (slice_get slots slot)
+
+-- how many bytes that is: none where nothing waits
+abbrev pub sent_count : Option (List ℕ) → ℕ
+sent_count sent = option_map_or (λ bytes. length bytes) sent 0
 
 -- what waits for device n of a slot, which is in this state: its interrupt word, whether its driver waits for
 -- the host, how many bytes the host takes now, and which tags are in flight

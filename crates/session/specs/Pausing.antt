@@ -101,6 +101,6 @@ pub record WentOn (A : Type 0) (old : SessionState) (slot : ℕ) (result : Resul
   pub call : IsCall old (GoOn slot) response new
   pub told : result ≡ went_on_to response
 
--- how many bytes were typed and taken by the event whose service is paused
+-- how many bytes the event handed in that were taken, whose service is paused
 abbrev pub taken_at : ℕ → SessionState → Option ℕ
 taken_at slot session = option_and_then (λ pause. pause.taken) (paused_at session.paused slot)

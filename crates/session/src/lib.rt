@@ -9,12 +9,13 @@
 //! what the caller is told.
 //!
 //! `guest` is what a session is made of, and `plugging` gives its board the guests' further devices. `fault` says why there is no
-//! session, `refusal` why a call was refused, `typed` what became of input, `laws` what holds of every session, and `lines` what
-//! holds of every line of calls.
+//! session, `refusal` why a call was refused, `handed` what became of bytes that were handed in, `laws` what holds of every
+//! session, and `lines` what holds of every line of calls.
 #![tactic(auto)]
 
 mod fault;
 mod guest;
+mod handed;
 mod laws;
 mod lines;
 mod plugging;
@@ -24,7 +25,6 @@ mod response;
 mod session;
 mod told;
 mod turn_kind;
-mod typed;
 
 pub use block_device::{Operation, OperationKind, Verdict};
 pub use board::{
@@ -36,6 +36,7 @@ pub use board::{
 pub use chain::Segment;
 pub use fault::SessionFault;
 pub use guest::{GuestSpec, has_bad_device};
+pub use handed::Handed;
 pub use laws::{
     a_flight_outlasts_own_events, a_guest_with_room_runs_alone, a_write_in_place_is_an_event,
     each_guest_is_alone, the_outlet_decides, what_touches_no_memory_needs_none,
@@ -47,4 +48,3 @@ pub use refusal::Refusal;
 pub use response::Response;
 pub use session::Session;
 pub use told::{DeviceWaits, Told, Waits};
-pub use typed::Typed;

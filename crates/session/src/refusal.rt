@@ -45,17 +45,6 @@ impl Refusal {
         }
     }
 
-    /// Why a device doesn't answer, where there are so many slots.
-    pub(crate) fn of_device(slot: u8, slots: usize) -> Refusal
-        ensures { result ≡ (if nat_lt slot slots then Refusal.BadDevice else Refusal.BadSlot) }
-    {
-        if usize::from(slot) < slots {
-            Refusal::BadDevice
-        } else {
-            Refusal::BadSlot
-        }
-    }
-
     /// The refusal that a response of the board says.
     #[inline(always)]
     pub(crate) fn of<A: Allocator>(response: &Response<A>) -> Refusal

@@ -10,11 +10,11 @@ ghost use Rattle.sector_cache.specs.Disk.{new_disk};
 ghost use Rattle.sector_cache.specs.MemoryImage.{disk_of};
 ghost use Rattle.board.specs.Fault.{IsAccepted, Refuses};
 ghost use Rattle.board.specs.Image.{bytes_of};
+ghost use Rattle.board.specs.InPlace.{event_in};
 ghost use Rattle.board.specs.Lent.{AreBytesOf, made_over, opened_over};
 ghost use Rattle.board.specs.Slot.{BoardSlot, interrupt_words, opened};
 ghost use Rattle.output_queue.specs.Waiting.{none_waiting};
 ghost use Rattle.session.specs.declared.fault.SessionFault.{SessionFault};
-ghost use Rattle.board.specs.declared.event.EventKind.{EventKind};
 ghost use Rattle.board.specs.declared.reply.Reply.{Reply};
 ghost use Rattle.session.specs.declared.response.Response.{Response};
 ghost use Rattle.session.specs.Pacing.{call_of, paused_at};
@@ -40,7 +40,7 @@ use crate::plugging::plug_devices;
 use crate::response::{Response, Turned, note};
 use crate::told::Waits;
 use crate::turn_kind::TurnKind;
-use board::{Board, Budget, MemoryImage, Pause, Refused, Reply};
+use board::{Board, Budget, InPlace, MemoryImage, Pause, Refused, Reply};
 use output_queue::OutputQueue;
 use sector_cache::are_whole_sectors;
 use std::alloc::{AllocError, Allocator, Global};
@@ -208,10 +208,11 @@ impl<A: Allocator + Copy> Session<A> {
         }
     }
 
-    // Types to a slot's console.
-    fn put_in(&mut self, slot: u8, bytes: &[u8]) -> Turned<A>
-        ensures call { IsEventCall self.old slot (EventKind.Input bytes.now) result.response self.new }
-        ensures suits { SuitsCall (EventKind.Input bytes.now) result.response }
+    // Begins an event of a slot whose bytes are in a slice.
+    #[inline(always)]
+    fn begin_in_place(&mut self, slot: u8, what: InPlace<'_>) -> Turned<A>
+        ensures call { IsEventCall self.old slot (event_in what.entry) result.response self.new }
+        ensures suits { SuitsCall (event_in what.entry) result.response }
         ensures as_many { length self.old.paused ≡ length self.old.slots }
         ensures waits { result.waits ≡ waits_at slot self.new }
     {
@@ -219,7 +220,7 @@ impl<A: Allocator + Copy> Session<A> {
             None => self.unmoved(slot, Response::Answered(Reply::BadSlot)),
             Some(Some(_)) => self.unmoved(slot, Response::Busy),
             Some(None) => {
-                let taken = self.board.begin_input(slot, bytes, self.budget);
+                let taken = self.board.begin_in_place(slot, what, self.budget);
                 let response = note(&mut self.paused[slot as usize], taken.turn);
                 let waits = self.waits(slot, taken.block_irq, taken.console_irq);
                 Turned { response, waits }

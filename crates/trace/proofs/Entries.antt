@@ -25,7 +25,7 @@ use Rattle.guest_memory.specs.declared.spec.RegionSpec.{RegionSpec}
 use Rattle.trace.specs.declared.table.Field.{Field}
 use Rattle.trace.specs.declared.table.Field.TheVariants.{Identity}
 use Rattle.trace.specs.declared.word.Word.{Word}
-use Rattle.trace.specs.declared.word.Word.TheVariants.{Cache, Slot, Read, Write, MemRead, MemWrite, Input, Resize, Restore, Complete, Drop, Hold, Release, Plug, DeviceRead, DeviceWrite, Supply, Receive, TakeSent, SetLink, DeviceResize, DeviceComplete, DeviceDrop, DeviceHold, DeviceRelease}
+use Rattle.trace.specs.declared.word.Word.TheVariants.{Cache, Slot, Read, Write, MemRead, MemWrite, Input, Resize, Restore, Complete, Drop, Hold, Release, Plug, DeviceRead, DeviceWrite, Supply, Receive, TakeSent, DropSent, SetLink, DeviceResize, DeviceComplete, DeviceDrop, DeviceHold, DeviceRelease}
 use Rattle.trace.specs.Cuts.{fields_of}
 use Rattle.trace.specs.Faults.{AllSay, AreAsMany, MayStand, order, fault_of}
 use Rattle.trace.specs.Printable.{DoneInRange, HostInRange, KindInRange, IsPrintableDone, IsPrintableKind, IsPrintableMemory, SlotInRange}
@@ -59,9 +59,9 @@ word_at n = cond (eqb n 99097099) Cache
     (cond (eqb n 100114111) Drop (cond (eqb n 104111108) Hold (cond (eqb n 114101108) Release
     (cond (eqb n 112108117) Plug (cond (eqb n 100114000) DeviceRead (cond (eqb n 100119000) DeviceWrite
     (cond (eqb n 115117112) Supply (cond (eqb n 102114097) Receive (cond (eqb n 116097107) TakeSent
-    (cond (eqb n 108105110) SetLink (cond (eqb n 100115122) DeviceResize
+    (cond (eqb n 100115101) DropSent (cond (eqb n 108105110) SetLink (cond (eqb n 100115122) DeviceResize
     (cond (eqb n 100105111) DeviceComplete (cond (eqb n 100100114) DeviceDrop (cond (eqb n 100104111) DeviceHold
-    (cond (eqb n 100114101) DeviceRelease Resize)))))))))))))))))))))))
+    (cond (eqb n 100114101) DeviceRelease Resize))))))))))))))))))))))))
 
 found : (w : Word) → word_at (key (spelled w)) ≡ w
 found Cache = refl
@@ -430,6 +430,7 @@ device_stands format slot n (device.Supply bs) lt of range fine =
 device_stands format slot n (device.Receive bs) lt of range fine =
     (a_number 8 slot lt, (a_number 8 n of, (some_bytes bs range.each, tt)))
 device_stands format slot n device.TakeSent lt of range fine = (a_number 8 slot lt, (a_number 8 n of, tt))
+device_stands format slot n device.DropSent lt of range fine = (a_number 8 slot lt, (a_number 8 n of, tt))
 device_stands format slot n (device.SetLink up) lt of range fine =
     (a_number 8 slot lt, (a_number 8 n of, (a_link up, tt)))
 device_stands format slot n (device.Resize cols rows) lt of range fine =

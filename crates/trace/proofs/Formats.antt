@@ -7,7 +7,7 @@ use Rattle.trace.specs.declared.format.Format.TheVariants.{Plain, Extended}
 use Rattle.trace.specs.declared.format.Version.{Version}
 use Rattle.trace.specs.declared.format.Version.TheVariants.{One, Two}
 use Rattle.trace.specs.declared.word.Word.{Word}
-use Rattle.trace.specs.declared.word.Word.TheVariants.{Restore, Complete, Drop, Hold, Release, Plug, DeviceRead, DeviceWrite, Supply, Receive, TakeSent, SetLink, DeviceResize, DeviceComplete, DeviceDrop, DeviceHold, DeviceRelease}
+use Rattle.trace.specs.declared.word.Word.TheVariants.{Restore, Complete, Drop, Hold, Release, Plug, DeviceRead, DeviceWrite, Supply, Receive, TakeSent, DropSent, SetLink, DeviceResize, DeviceComplete, DeviceDrop, DeviceHold, DeviceRelease}
 use Rattle.trace.specs.Format.{GoesInto, if_extended, unless_version_1}
 use Rattle.trace.specs.Printable.{IsPrintable, IsPrintableDisk, IsPrintableMemory, IsPrintableSlot}
 use Rattle.trace.specs.Text.{Content, as_format, word_for}
@@ -39,6 +39,7 @@ word_of_extended DeviceWrite = refl
 word_of_extended Supply = refl
 word_of_extended Receive = refl
 word_of_extended TakeSent = refl
+word_of_extended DropSent = refl
 word_of_extended SetLink = refl
 word_of_extended DeviceResize = refl
 word_of_extended DeviceComplete = refl
@@ -71,6 +72,7 @@ word_goes old new DeviceWrite goes h = goes_extended old new goes h
 word_goes old new Supply goes h = goes_extended old new goes h
 word_goes old new Receive goes h = goes_extended old new goes h
 word_goes old new TakeSent goes h = goes_extended old new goes h
+word_goes old new DropSent goes h = goes_extended old new goes h
 word_goes old new SetLink goes h = goes_extended old new goes h
 word_goes old new DeviceResize goes h = goes_extended old new goes h
 word_goes old new DeviceComplete goes h = goes_extended old new goes h

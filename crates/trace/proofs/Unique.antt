@@ -309,6 +309,8 @@ same_done m n d f (device.Receive xs) (device.Receive ys) rv rw' fv fw e = (
 )
 same_done m n d f device.TakeSent device.TakeSent rv rw' fv fw e =
     (same_num m n (same_at e 1), (same_num d f (same_at e 2), refl))
+same_done m n d f device.DropSent device.DropSent rv rw' fv fw e =
+    (same_num m n (same_at e 1), (same_num d f (same_at e 2), refl))
 same_done m n d f (device.SetLink a) (device.SetLink b) rv rw' fv fw e = (
   same_num m n (same_at e 1),
   (same_num d f (same_at e 2), ap device.SetLink (same_link a b (same_at e 3))),

@@ -17,7 +17,7 @@ use Rattle.trace.specs.declared.format.Format.TheVariants.{Plain, Extended}
 use Rattle.trace.specs.declared.format.Version.TheVariants.{One, Two}
 use Rattle.trace.specs.declared.trace.Trace.{Trace}
 use Rattle.trace.specs.declared.word.Word.{Word}
-use Rattle.trace.specs.declared.word.Word.TheVariants.{Cache, Slot, Read, Write, MemRead, MemWrite, Input, Resize, Restore, Complete, Drop, Hold, Release, Plug, DeviceRead, DeviceWrite, Supply, Receive, TakeSent, SetLink, DeviceResize, DeviceComplete, DeviceDrop, DeviceHold, DeviceRelease}
+use Rattle.trace.specs.declared.word.Word.TheVariants.{Cache, Slot, Read, Write, MemRead, MemWrite, Input, Resize, Restore, Complete, Drop, Hold, Release, Plug, DeviceRead, DeviceWrite, Supply, Receive, TakeSent, DropSent, SetLink, DeviceResize, DeviceComplete, DeviceDrop, DeviceHold, DeviceRelease}
 use Rattle.hexadecimal.specs.Spelling.{num, fixed, bytes}
 use Rattle.trace.specs.Spelling.{window, width_digit, disk, mode, verdict, regions_text, device_kind, spec_fields, link_state}
 use Rattle.trace.specs.Format.{if_extended, unless_version_1}
@@ -121,8 +121,8 @@ device_host_fields slot n host.Hold = spelled DeviceHold ∷ num slot ∷ num n 
 device_host_fields slot n host.Release = spelled DeviceRelease ∷ num slot ∷ num n ∷ []
 
 -- what is done to a further device: it is given to the slot; its driver reads or writes its window; the host supplies
--- it with bytes, hands it a frame, takes what it put out, sets its link or its size, and says something of a disk that
--- it serves
+-- it with bytes, hands it a frame, takes or drops what it put out, sets its link or its size, and says something of a
+-- disk that it serves
 abbrev pub device_word : {A : Type 0} → DeviceEvent A → Word
 device_word (device.Plug spec) = Plug
 device_word (device.Read offset width) = DeviceRead
@@ -130,6 +130,7 @@ device_word (device.Write offset width value) = DeviceWrite
 device_word (device.Supply bs) = Supply
 device_word (device.Receive bs) = Receive
 device_word device.TakeSent = TakeSent
+device_word device.DropSent = DropSent
 device_word (device.SetLink up) = SetLink
 device_word (device.Resize cols rows) = DeviceResize
 device_word (device.Host said) = device_host_word said
@@ -143,6 +144,7 @@ device_fields slot n (device.Write offset width value) =
 device_fields slot n (device.Supply bs) = spelled Supply ∷ num slot ∷ num n ∷ bytes bs ∷ []
 device_fields slot n (device.Receive bs) = spelled Receive ∷ num slot ∷ num n ∷ bytes bs ∷ []
 device_fields slot n device.TakeSent = spelled TakeSent ∷ num slot ∷ num n ∷ []
+device_fields slot n device.DropSent = spelled DropSent ∷ num slot ∷ num n ∷ []
 device_fields slot n (device.SetLink up) = spelled SetLink ∷ num slot ∷ num n ∷ link_state up ∷ []
 device_fields slot n (device.Resize cols rows) =
     spelled DeviceResize ∷ num slot ∷ num n ∷ num cols ∷ num rows ∷ []

@@ -12,7 +12,7 @@ use Rattle.trace.specs.declared.format.Format.TheVariants.{Plain, Extended}
 use Rattle.trace.specs.declared.table.Field.{Field}
 use Rattle.trace.specs.declared.table.Field.TheVariants as field
 use Rattle.trace.specs.declared.word.Word.{Word}
-use Rattle.trace.specs.declared.word.Word.TheVariants.{Cache, Slot, Read, Write, MemRead, MemWrite, Input, Resize, Restore, Complete, Drop, Hold, Release, Plug, DeviceRead, DeviceWrite, Supply, Receive, TakeSent, SetLink, DeviceResize, DeviceComplete, DeviceDrop, DeviceHold, DeviceRelease}
+use Rattle.trace.specs.declared.word.Word.TheVariants.{Cache, Slot, Read, Write, MemRead, MemWrite, Input, Resize, Restore, Complete, Drop, Hold, Release, Plug, DeviceRead, DeviceWrite, Supply, Receive, TakeSent, DropSent, SetLink, DeviceResize, DeviceComplete, DeviceDrop, DeviceHold, DeviceRelease}
 use Rattle.hexadecimal.specs.Fields.{IsBytesField, IsFixed, SpellsBytes, SpellsNumber}
 use Rattle.trace.specs.Spelling.{window, width_digit, disk, mode, verdict, region_text, regions_text, card, console, device_kind, link_state}
 use Rattle.trace.specs.Format.{IsExtended, if_extended, unless_version_1}
@@ -160,6 +160,7 @@ spelled DeviceWrite = codes "dw"
 spelled Supply = codes "supply"
 spelled Receive = codes "frame"
 spelled TakeSent = codes "take"
+spelled DropSent = codes "dsent"
 spelled SetLink = codes "link"
 spelled DeviceResize = codes "dsz"
 spelled DeviceComplete = codes "dio"
@@ -181,6 +182,7 @@ IsWordOf format DeviceWrite = IsExtended format
 IsWordOf format Supply = IsExtended format
 IsWordOf format Receive = IsExtended format
 IsWordOf format TakeSent = IsExtended format
+IsWordOf format DropSent = IsExtended format
 IsWordOf format SetLink = IsExtended format
 IsWordOf format DeviceResize = IsExtended format
 IsWordOf format DeviceComplete = IsExtended format
@@ -200,6 +202,7 @@ IsDeviceWord DeviceWrite = ⊤
 IsDeviceWord Supply = ⊤
 IsDeviceWord Receive = ⊤
 IsDeviceWord TakeSent = ⊤
+IsDeviceWord DropSent = ⊤
 IsDeviceWord SetLink = ⊤
 IsDeviceWord DeviceResize = ⊤
 IsDeviceWord DeviceComplete = ⊤
@@ -263,6 +266,7 @@ fields_in format DeviceWrite is_disk = field.Slot ∷ field.Device ∷ field.Off
 fields_in format Supply is_disk = field.Slot ∷ field.Device ∷ field.Bytes ∷ []
 fields_in format Receive is_disk = field.Slot ∷ field.Device ∷ field.Bytes ∷ []
 fields_in format TakeSent is_disk = field.Slot ∷ field.Device ∷ []
+fields_in format DropSent is_disk = field.Slot ∷ field.Device ∷ []
 fields_in format SetLink is_disk = field.Slot ∷ field.Device ∷ field.Link ∷ []
 fields_in format DeviceResize is_disk = field.Slot ∷ field.Device ∷ field.Columns ∷ field.Rows ∷ []
 fields_in format DeviceComplete is_disk = field.Slot ∷ field.Device ∷ field.Tag ∷ field.Verdict ∷ []

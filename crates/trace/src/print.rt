@@ -352,6 +352,7 @@ fn device_says<'a, A: Allocator>(
             (Word::Receive, fields)
         }
         DeviceEvent::TakeSent => (Word::TakeSent, fields),
+        DeviceEvent::DropSent => (Word::DropSent, fields),
         DeviceEvent::SetLink { up } => {
             fields.up = *up;
             (Word::SetLink, fields)

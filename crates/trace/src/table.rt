@@ -81,7 +81,7 @@ pub fn fields_after(format: Format, word: Word, is_disk: bool) -> &'static [Fiel
         Word::DeviceRead => &[Slot, Device, Offset, Width],
         Word::DeviceWrite => &[Slot, Device, Offset, Width, Value],
         Word::Supply | Word::Receive => &[Slot, Device, Bytes],
-        Word::TakeSent => &[Slot, Device],
+        Word::TakeSent | Word::DropSent => &[Slot, Device],
         Word::SetLink => &[Slot, Device, Link],
         Word::DeviceResize => &[Slot, Device, Columns, Rows],
         Word::DeviceComplete => &[Slot, Device, Tag, Verdict],

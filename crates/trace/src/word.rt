@@ -31,6 +31,7 @@ pub enum Word {
     Supply,
     Receive,
     TakeSent,
+    DropSent,
     SetLink,
     DeviceResize,
     DeviceComplete,
@@ -62,6 +63,7 @@ pub(crate) fn word_of(field: &[u8]) -> Option<Word>
         b"supply" => Some(Word::Supply),
         b"frame" => Some(Word::Receive),
         b"take" => Some(Word::TakeSent),
+        b"dsent" => Some(Word::DropSent),
         b"link" => Some(Word::SetLink),
         b"dsz" => Some(Word::DeviceResize),
         b"dio" => Some(Word::DeviceComplete),
@@ -103,6 +105,7 @@ pub(crate) fn is_word_of(format: Format, word: Word) -> bool
         | Word::Supply
         | Word::Receive
         | Word::TakeSent
+        | Word::DropSent
         | Word::SetLink
         | Word::DeviceResize
         | Word::DeviceComplete
@@ -153,6 +156,7 @@ fn device_word<A: Allocator>(done: &DeviceEvent<A>) -> Word
         DeviceEvent::Supply { .. } => Word::Supply,
         DeviceEvent::Receive { .. } => Word::Receive,
         DeviceEvent::TakeSent => Word::TakeSent,
+        DeviceEvent::DropSent => Word::DropSent,
         DeviceEvent::SetLink { .. } => Word::SetLink,
         DeviceEvent::Resize { .. } => Word::DeviceResize,
         DeviceEvent::Host(said) => device_host_word(said),
@@ -193,6 +197,7 @@ pub(crate) fn spelling_of(word: Word) -> &'static [u8]
         Word::Supply => b"supply",
         Word::Receive => b"frame",
         Word::TakeSent => b"take",
+        Word::DropSent => b"dsent",
         Word::SetLink => b"link",
         Word::DeviceResize => b"dsz",
         Word::DeviceComplete => b"dio",

@@ -20,6 +20,7 @@ ghost use Rattle.board.specs.World.{Answers, KeepsOthers, disturbed_of, extents_
 
 use crate::board::Board;
 use crate::event::SlotWindow;
+use crate::in_place::InPlace;
 use crate::pause::Turn;
 use crate::reply::Reply;
 use crate::slot::copy_out;
@@ -161,9 +162,13 @@ impl<I: Image, A: Allocator + Copy> Board<I, A> {
         let Some(found) = self.slots.get_mut(slot as usize) else {
             return None;
         };
-        match found.input(bytes, Budget::UNLIMITED) {
-            Turn::Answered(Reply::Took(taken)) => Some(taken),
-            _ => unreachable!(),
-        }
+        let turn = found.begin_in_place(InPlace::Input(bytes), Budget::UNLIMITED);
+        let Turn::Answered(reply) = turn else {
+            unreachable!()
+        };
+        let Reply::Took(taken) = reply else {
+            unreachable!()
+        };
+        Some(taken)
     }
 }

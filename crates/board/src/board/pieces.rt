@@ -1,19 +1,20 @@
 //! An event of a slot, and the pieces of its service.
 
-ghost use Rattle.std.specs.Prelude.{◌≡◌, ◌↔◌, ◌<◌, ◌≤◌, [], Some, length};
+ghost use Rattle.std.specs.Prelude.{◌≡◌, ◌≢◌, ◌↔◌, ◌<◌, ◌≤◌, [], Some, length};
 ghost use Rattle.std.specs.List.{slice_get};
 ghost use Rattle.board.specs.Durable.{TouchesSlot};
-ghost use Rattle.board.specs.declared.event.EventKind.{EventKind};
 ghost use Rattle.board.specs.declared.pause.Turn.{Turn};
 ghost use Rattle.board.specs.declared.reply.Reply.{Reply};
 ghost use Rattle.board.specs.Image.{Tells};
+ghost use Rattle.board.specs.InPlace.{event_in};
 ghost use Rattle.board.specs.Pausing.{Begins, Does, PausesByLimit, MayLackMemoryIn, TakesTurn, met_in};
 ghost use Rattle.board.specs.Slot.{AreInterruptWords, BoardSlot, interrupt_words};
-ghost use Rattle.board.specs.World.{HoldsAt, IsMissed, KeepsOthers, NotesRefusal, StaysInExtents, disturbed_of, extents_of, world_of};
+ghost use Rattle.board.specs.World.{Answers, HoldsAt, IsMissed, KeepsOthers, NotesRefusal, StaysInExtents, disturbed_of, extents_of, world_of};
 ghost use Rattle.board.specs.Within.{DecidesSlot, DoesWithin};
 
 use crate::board::Board;
 use crate::guest::Guest;
+use crate::in_place::InPlace;
 use crate::pause::{Turn, Work};
 use crate::reply::Reply;
 use chain::Budget;
@@ -101,11 +102,12 @@ impl<I: Image, A: Allocator + Copy> Board<I, A> {
         Taken::after(turn, slot)
     }
 
-    /// Types bytes to the slot's console: `turn` for that input, for who has the bytes in a slice. No memory is
+    /// Begins an event of the slot whose bytes are in a slice: `turn` for that event, which needn't be made. No memory is
     /// taken.
-    pub fn begin_input(&mut self, slot: u8, bytes: &[u8], budget: Budget) -> Taken<A>
+    #[inline(always)]
+    pub fn begin_in_place(&mut self, slot: u8, what: InPlace<'_>, budget: Budget) -> Taken<A>
         ensures takes { Tells (I.disk self.old.image) → slot < length self.old.slots →
-            TakesTurn (Begins (EventKind.Input bytes.now) budget) (world_of I.disk self.old) slot result.turn
+            TakesTurn (Begins (event_in what.entry) budget) (world_of I.disk self.old) slot result.turn
             result.block_irq result.console_irq [] [] (world_of I.disk self.new) }
         ensures image { self.new.image ≡ self.old.image }
         ensures extents { extents_of self.new.slots ≡ extents_of self.old.slots }
@@ -114,6 +116,7 @@ impl<I: Image, A: Allocator + Copy> Board<I, A> {
             (result.block_irq, result.console_irq) ≡ interrupt_words found }
         ensures words { AreInterruptWords result.block_irq result.console_irq }
         ensures limited { PausesByLimit budget result.turn }
+        ensures answered { result.turn ≢ Turn.Answered Reply.NoMemory }
         ensures bad_slot { (result.turn ≡ Turn.Answered Reply.BadSlot) ↔ (length self.old.slots ≤ slot) }
         ensures missing { length self.old.slots ≤ slot →
             IsMissed self.old self.new [] [] result.block_irq result.console_irq }
@@ -122,7 +125,27 @@ impl<I: Image, A: Allocator + Copy> Board<I, A> {
         let Some(slot) = self.slots.get_mut(slot as usize) else {
             return Taken::missing();
         };
-        let turn = slot.input(bytes, budget);
+        let turn = slot.begin_in_place(what, budget);
         Taken::after(turn, slot)
+    }
+
+    /// The same to its end: the event's answer.
+    pub fn do_in_place(&mut self, slot: u8, what: InPlace<'_>) -> Reply<A>
+        ensures step { Tells (I.disk self.old.image) → Answers (world_of I.disk self.old)
+            (record { slot = slot; what = event_in what.entry }) result [] [] (world_of I.disk self.new) }
+        ensures others { KeepsOthers slot self.old.slots self.new.slots }
+        ensures extents { extents_of self.new.slots ≡ extents_of self.old.slots }
+        ensures image { self.new.image ≡ self.old.image }
+        ensures disturbed { disturbed_of self.new.slots ≡ disturbed_of self.old.slots }
+    {
+        let Taken {
+            turn,
+            block_irq: _,
+            console_irq: _,
+        } = self.begin_in_place(slot, what, Budget::UNLIMITED);
+        match turn {
+            Turn::Answered(reply) => reply,
+            Turn::More(_) => unreachable!(),
+        }
     }
 }

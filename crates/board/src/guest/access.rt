@@ -1,6 +1,6 @@
 //! What an embedder reaches of a guest between its events.
 
-ghost use Rattle.std.specs.Prelude.{◌≡◌, ◌⊎◌, ◌++◌, ◌∷◌, ℕ, List, [], None, IfErr, IfOk, IfSome, OnErr, OnOk, get_or, length};
+ghost use Rattle.std.specs.Prelude.{◌≡◌, ◌++◌, ◌∷◌, [], None, IfErr, IfOk, IfSome, OnErr, OnOk, get_or, length};
 ghost use Rattle.std.specs.Bool.{OnTrue, OnFalse};
 ghost use Rattle.std.specs.Borrow.{sem};
 ghost use Rattle.guest_memory.specs.Memory.{Inside, IsRest, SameRange, is_inside, stored};
@@ -9,20 +9,17 @@ ghost use Rattle.block_device.specs.Flights.{operation_in, runs_in, taken_bits};
 ghost use Rattle.block_device.specs.Operation.{LiesInside};
 ghost use Rattle.device_list.specs.Device.{fresh_device};
 ghost use Rattle.device_list.specs.List.{IsRefusedFor, refusal_of};
-ghost use Rattle.board.specs.Devices.{has_sent, taken_reply};
 ghost use Rattle.board.specs.declared.event.DeviceEvent.{DeviceEvent};
 ghost use Rattle.board.specs.declared.event.EventKind.{EventKind};
-ghost use Rattle.board.specs.declared.pause.Turn.{Turn};
 ghost use Rattle.board.specs.Backing.{tags_in};
-ghost use Rattle.board.specs.Image.{Health};
+ghost use Rattle.board.specs.InPlace.{event_in};
 ghost use Rattle.board.specs.Lending.{LendsBytes, with_page_bits};
-ghost use Rattle.board.specs.Pausing.{Begins, PausesByLimit, input_service, reply_of};
-ghost use Rattle.board.specs.Quiet.{AnswersQuietly};
-ghost use Rattle.board.specs.Slot.{AreInterruptWords, interrupt_words, sectors_in, state_of};
+ghost use Rattle.board.specs.Quiet.{AnswersQuietly, BeginsQuietly};
+ghost use Rattle.board.specs.Slot.{AreInterruptWords, interrupt_words, sectors_in};
 
 use crate::guest::Guest;
+use crate::in_place::InPlace;
 use crate::pause::Turn;
-use crate::reply::Reply;
 use crate::slot::Slot;
 use block_device::Operation;
 use chain::{Budget, Segment};
@@ -109,55 +106,23 @@ impl<A: Allocator> Guest<A> {
 }
 
 impl<A: Allocator + Copy> Guest<A> {
-    /// Types bytes to the guest's console, whose receive queue is served, and may pause where the budget is spent.
-    pub(crate) fn input(&mut self, bytes: &[u8], budget: Budget) -> Turn<A>
-        ensures begins { (image : List ℕ) (health : Health) →
-            Begins (EventKind.Input bytes.now) budget (state_of image self.old) health health
-            (state_of image self.new) [] result }
-        ensures extent { self.new.extent ≡ self.old.extent }
-        ensures disturbed { self.new.disturbed ≡ self.old.disturbed }
-        ensures limited { PausesByLimit budget result }
-        ensures took { result ≡ Turn.More (input_service self.old.pending bytes.now)
-            ⊎ result ≡ Turn.Answered (reply_of (input_service self.old.pending bytes.now)) }
+    /// Begins an event whose bytes are in a slice. A service that it asks for may pause where the budget is spent.
+    #[inline(always)]
+    pub(crate) fn begin_in_place(&mut self, what: InPlace<'_>, budget: Budget) -> Turn<A>
+        ensures { BeginsQuietly self.old (event_in what.entry) budget self.new result }
     {
-        self.slot.input(bytes, budget)
-    }
-
-    /// Writes a register of a further device's window.
-    pub(crate) fn write_device(
-        &mut self,
-        device: u8,
-        offset: u16,
-        width: u8,
-        value: u32,
-    ) -> Reply<A>
-        ensures { AnswersQuietly self.old (EventKind.Device device (DeviceEvent.Write offset width value)) self.new result }
-    {
-        self.slot.write_device(device, offset, width, value)
-    }
-
-    /// Supplies a further device with bytes.
-    pub(crate) fn supply(&mut self, device: u8, bytes: &[u8]) -> Reply<A>
-        ensures { AnswersQuietly self.old (EventKind.Device device (DeviceEvent.Supply bytes.now)) self.new result }
-    {
-        self.slot.supply_device(device, bytes)
-    }
-
-    /// Hands a network card a frame.
-    pub(crate) fn receive(&mut self, device: u8, frame: &[u8]) -> Reply<A>
-        ensures { AnswersQuietly self.old (EventKind.Device device (DeviceEvent.Receive frame.now)) self.new result }
-    {
-        self.slot.receive_frame(device, frame)
-    }
-
-    /// Takes away what a further device's driver sent.
-    pub(crate) fn take_sent(&mut self, device: u8) -> Option<bool>
-        ensures value { result ≡ has_sent device self.old.devices }
-        ensures answers { AnswersQuietly self.old (EventKind.Device device DeviceEvent.TakeSent) self.new
-            (taken_reply {A = A} device self.old.devices) }
-        ensures kept { result ≡ None → self.new ≡ self.old }
-    {
-        self.slot.drop_sent(device)
+        match what {
+            InPlace::Input(bytes) => self.slot.input(bytes, budget),
+            InPlace::Write {
+                device,
+                offset,
+                width,
+                value,
+            } => self.slot.write_device(device, offset, width, value, budget),
+            InPlace::Supply { device, bytes } => self.slot.supply_device(device, bytes, budget),
+            InPlace::DropSent { device } => self.slot.drop_sent(device, budget),
+            InPlace::Receive { device, frame } => self.slot.receive_frame(device, frame, budget),
+        }
     }
 
     /// Plugs a further device in, and answers its number.

@@ -1,45 +1,75 @@
 //! What is done to the slot's further devices.
 
-ghost use Rattle.std.specs.Prelude.{◌≡◌, ◌++◌, ◌∷◌, [], All, None, IfErr, IfOk, IfSome, OnErr, OnOk, length};
+ghost use Rattle.std.specs.Prelude.{◌≡◌, ◌++◌, ◌∷◌, [], All, None, IfErr, IfOk, IfSome, OnErr, OnOk, is_some, length};
+ghost use Rattle.std.specs.Bool.{OnTrue, OnFalse};
 ghost use Rattle.std.specs.List.{slice_get};
 ghost use Rattle.std.specs.Option.{option_map};
 ghost use Rattle.block_device.specs.Flights.{TagIsHeld};
-ghost use Rattle.device_list.specs.Device.{fresh_device};
-ghost use Rattle.device_list.specs.List.{IsRefusedFor, are_at_work, disk_at, is_starved_at, refusal_of, sent_by};
+ghost use Rattle.guest_memory.specs.Memory.{SameRange};
+ghost use Rattle.mmio_window.specs.declared.stage.Stage.{Stage};
+ghost use Rattle.device_list.specs.Device.{TakesSent, fresh_device};
+ghost use Rattle.device_list.specs.List.{At, DevicesServeTo, IsRefusedFor, are_at_work, disk_at, is_starved_at, refusal_of, sent_by};
 ghost use Rattle.board.specs.declared.event.DeviceEvent.{DeviceEvent};
-ghost use Rattle.board.specs.Devices.{has_sent, taken_reply};
-ghost use Rattle.board.specs.Quiet.{DoesToDevice};
+ghost use Rattle.board.specs.Devices.{IsAtOnce, further_service};
+ghost use Rattle.board.specs.Quiet.{BeginsAtDevice, DoesToDevice, ServesFurther};
 
 use crate::bytes::Bytes;
 use crate::event::DeviceEvent;
+use crate::pause::{Pause, Service, Turn};
 use crate::reply::Reply;
 use crate::slot::Slot;
 use block_device::HostEvent;
-use chain::Chain;
+use chain::{Budget, Chain, Progress};
 use device_list::{AddRefusal, DeviceSpec, HostedDisk, ReceiveRefusal, VirtioDevice, WriteRefusal};
-use network_device::FrameRefusal;
+use mmio_window::{Action, Stage};
+use network_device::{FrameRefusal, RECEIVEQ, TRANSMITQ};
 use std::alloc::{AllocError, Allocator};
 
+// The queue that waits for what a device is supplied with: the request queue of an entropy device, and a console's receive
+// queue.
+const SUPPLIED_QUEUE: u16 = 0;
+
 impl<A: Allocator + Copy> Slot<A> {
-    /// Does this to the further device of this number.
+    /// Does this to the further device of this number. A service that it asks for may pause where the budget is spent.
     #[inline(never)]
-    pub(super) fn device_event(&mut self, alloc: A, device: u8, what: &DeviceEvent<A>) -> Reply<A>
+    pub(super) fn device_event(
+        &mut self,
+        alloc: A,
+        device: u8,
+        what: &DeviceEvent<A>,
+        budget: Budget,
+    ) -> Turn<A>
+        ensures { BeginsAtDevice device what.now budget self.old self.new result }
+    {
+        match what {
+            DeviceEvent::Write {
+                offset,
+                width,
+                value,
+            } => self.write_device(device, *offset, *width, *value, budget),
+            DeviceEvent::Supply { bytes } => self.supply_device(device, bytes.as_slice(), budget),
+            DeviceEvent::Receive { frame } => self.receive_frame(device, frame.as_slice(), budget),
+            DeviceEvent::DropSent => self.drop_sent(device, budget),
+            _ => Turn::Answered(self.device_at_once(alloc, device, what)),
+        }
+    }
+
+    // Does what asks for no service that may pause.
+    fn device_at_once(&mut self, alloc: A, device: u8, what: &DeviceEvent<A>) -> Reply<A>
+        requires { IsAtOnce what.now }
         ensures { DoesToDevice device what.now self.old self.new result }
     {
         match what {
             DeviceEvent::Plug(spec) => self.plug_device(alloc, device, *spec),
             DeviceEvent::Read { offset, width } => self.read_device(device, *offset, *width),
-            DeviceEvent::Write {
-                offset,
-                width,
-                value,
-            } => self.write_device(device, *offset, *width, *value),
-            DeviceEvent::Supply { bytes } => self.supply_device(device, bytes.as_slice()),
-            DeviceEvent::Receive { frame } => self.receive_frame(device, frame.as_slice()),
             DeviceEvent::TakeSent => self.take_sent(alloc, device),
             DeviceEvent::SetLink { up } => self.set_link(device, *up),
             DeviceEvent::Resize { cols, rows } => self.resize_device(device, *cols, *rows),
             DeviceEvent::Host(said) => self.tell_device(device, *said),
+            DeviceEvent::Write { .. }
+            | DeviceEvent::Supply { .. }
+            | DeviceEvent::Receive { .. }
+            | DeviceEvent::DropSent => unreachable!(),
         }
     }
 
@@ -67,25 +97,65 @@ impl<A: Allocator + Copy> Slot<A> {
         }
     }
 
-    /// Writes a device's window, and has the device do its part (4.2.2).
+    /// Writes a device's window, and has the device do its part, within the budget (4.2.2).
     pub(crate) fn write_device(
         &mut self,
         device: u8,
         offset: u16,
         width: u8,
         value: u32,
-    ) -> Reply<A>
-        ensures { DoesToDevice device (DeviceEvent.Write offset width value) self.old self.new result }
+        budget: Budget,
+    ) -> Turn<A>
+        ensures { BeginsAtDevice device (DeviceEvent.Write offset width value) budget self.old self.new result }
     {
-        let (memory, room) = (&mut self.memory, &mut self.chain);
         match self
             .devices
-            .write(device, offset, width, value, memory, room)
+            .write(device, offset, width, value, &self.memory)
         {
-            Ok(()) => Reply::Done,
-            Err(WriteRefusal::Busy) => Reply::Busy,
-            Err(WriteRefusal::NoDevice) => Reply::BadDevice,
+            Ok(Some(queue)) => {
+                self.counters.wrote(Action::Notify(queue));
+                self.begin_further(device, queue, None, budget)
+            }
+            Ok(None) => Turn::Answered(Reply::Done),
+            Err(WriteRefusal::Busy) => Turn::Answered(Reply::Busy),
+            Err(WriteRefusal::NoDevice) => Turn::Answered(Reply::BadDevice),
         }
+    }
+
+    // Serves the first piece of a device's queue. At the end the event is answered how many bytes its device took, if it handed
+    // in some.
+    #[inline(always)]
+    fn begin_further(
+        &mut self,
+        device: u8,
+        queue: u16,
+        taken: Option<usize>,
+        budget: Budget,
+    ) -> Turn<A>
+        ensures { ServesFurther (further_service device queue taken) Stage.First budget self.old self.new result }
+    {
+        let service = Service::Further { device, queue };
+        let pause = Pause { service, taken };
+        let progress = self.serve_further(device, queue, Stage::First, budget);
+        pause.turn(progress)
+    }
+
+    /// Serves a piece of a further device's queue.
+    pub(super) fn serve_further(
+        &mut self,
+        device: u8,
+        queue: u16,
+        stage: Stage,
+        budget: Budget,
+    ) -> Progress
+        ensures served { DevicesServeTo stage budget result device queue self.old.memory self.new.memory
+            self.old.devices self.new.devices }
+        ensures rest { self.new ≡ record self.old { memory = self.new.memory; devices = self.new.devices } }
+        ensures range { SameRange self.old.memory self.new.memory }
+    {
+        let (memory, room) = (&mut self.memory, &mut self.chain);
+        self.devices
+            .serve(device, queue, memory, stage, budget, room)
     }
 
     /// Does what the host says of a disk that it serves.
@@ -100,26 +170,24 @@ impl<A: Allocator + Copy> Slot<A> {
         }
     }
 
-    /// Supplies a device with bytes.
-    pub(crate) fn supply_device(&mut self, device: u8, bytes: &[u8]) -> Reply<A>
-        ensures { DoesToDevice device (DeviceEvent.Supply bytes.now) self.old self.new result }
+    /// Supplies a device with bytes, and has it serve the queue that waits for them, within the budget.
+    pub(crate) fn supply_device(&mut self, device: u8, bytes: &[u8], budget: Budget) -> Turn<A>
+        ensures { BeginsAtDevice device (DeviceEvent.Supply bytes.now) budget self.old self.new result }
     {
-        let (memory, room) = (&mut self.memory, &mut self.chain);
-        match self.devices.supply(device, bytes, memory, room) {
-            Some(taken) => Reply::Took(taken),
-            None => Reply::BadDevice,
+        match self.devices.supply(device, bytes) {
+            Some(taken) => self.begin_further(device, SUPPLIED_QUEUE, Some(taken), budget),
+            None => Turn::Answered(Reply::BadDevice),
         }
     }
 
-    /// Hands a network card a frame.
-    pub(crate) fn receive_frame(&mut self, device: u8, frame: &[u8]) -> Reply<A>
-        ensures { DoesToDevice device (DeviceEvent.Receive frame.now) self.old self.new result }
+    /// Hands a network card a frame, and has it serve its receive queue, within the budget.
+    pub(crate) fn receive_frame(&mut self, device: u8, frame: &[u8], budget: Budget) -> Turn<A>
+        ensures { BeginsAtDevice device (DeviceEvent.Receive frame.now) budget self.old self.new result }
     {
-        let (memory, room) = (&mut self.memory, &mut self.chain);
-        match self.devices.receive(device, frame, memory, room) {
-            Ok(()) => Reply::Took(frame.len()),
-            Err(ReceiveRefusal::Frame(FrameRefusal::Full)) => Reply::Took(0),
-            Err(_) => Reply::BadDevice,
+        match self.devices.receive(device, frame) {
+            Ok(()) => self.begin_further(device, RECEIVEQ, Some(frame.len()), budget),
+            Err(ReceiveRefusal::Frame(FrameRefusal::Full)) => Turn::Answered(Reply::Took(0)),
+            Err(_) => Turn::Answered(Reply::BadDevice),
         }
     }
 
@@ -133,23 +201,54 @@ impl<A: Allocator + Copy> Slot<A> {
         let Ok(bytes) = joined(alloc, front, back) else {
             return Reply::NoMemory;
         };
-        let (memory, room) = (&mut self.memory, &mut self.chain);
-        let _ = self.devices.take_sent(device, memory, room);
+        let _ = self.drop_waiting(device);
         Reply::Bytes(bytes)
     }
 
-    /// Takes away what a device's driver sent. Answers whether anything waited, of a device whose driver sends anything.
-    pub(crate) fn drop_sent(&mut self, device: u8) -> Option<bool>
-        ensures value { result ≡ has_sent device self.old.devices }
-        ensures does { DoesToDevice device DeviceEvent.TakeSent self.old self.new
-            (taken_reply {A = A} device self.old.devices) }
-        ensures kept { result ≡ None → self.new ≡ self.old }
+    /// Drops what a device's driver sent, and has it serve its transmit queue, within the budget.
+    pub(crate) fn drop_sent(&mut self, device: u8, budget: Budget) -> Turn<A>
+        ensures { BeginsAtDevice device DeviceEvent.DropSent budget self.old self.new result }
     {
-        if !self.devices.has_sender(device) {
-            return None;
+        let Some(count) = self.sent_len(device) else {
+            return Turn::Answered(self.nothing_dropped(device));
+        };
+        let _ = self.devices.take_sent(device);
+        self.begin_further(device, TRANSMITQ, Some(count), budget)
+    }
+
+    // What the host is answered that drops what was sent where nothing waits.
+    fn nothing_dropped(&self, device: u8) -> Reply<A>
+        requires { sent_by device self.now.devices ≡ None }
+        ensures { DoesToDevice device DeviceEvent.DropSent self.now self.now result }
+    {
+        if self.devices.has_sender(device) {
+            Reply::Took(0)
+        } else {
+            Reply::BadDevice
         }
-        let (memory, room) = (&mut self.memory, &mut self.chain);
-        Some(self.devices.take_sent(device, memory, room))
+    }
+
+    // How many bytes a device's driver sent that its host takes now.
+    fn sent_len(&self, device: u8) -> Option<usize>
+        ensures { result ≡ option_map (λ sent. length sent) (sent_by device self.now.devices) }
+    {
+        let (front, back) = self.devices.sent(device)?;
+        Some(front.len() + back.len())
+    }
+
+    // Takes away what waits of a device's driver, and has it serve its transmit queue to the end. False where nothing waits.
+    fn drop_waiting(&mut self, device: u8) -> bool
+        ensures found { result ≡ is_some (sent_by device self.old.devices) }
+        ensures takes { OnTrue result (At TakesSent device self.old.memory self.new.memory self.old.devices self.new.devices) }
+        ensures kept { OnFalse result (self.new ≡ self.old) }
+        ensures rest { self.new ≡ record self.old { memory = self.new.memory; devices = self.new.devices } }
+        ensures range { SameRange self.old.memory self.new.memory }
+    {
+        if !self.devices.take_sent(device) {
+            return false;
+        }
+        let _ = self.serve_further(device, TRANSMITQ, Stage::First, Budget::UNLIMITED);
+        true
     }
 
     /// Plugs a further device in, and answers its number.

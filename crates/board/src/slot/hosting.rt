@@ -80,7 +80,9 @@ impl<A: Allocator + Copy> Slot<A> {
             EventKind::Resize { cols, rows } => self.resize(*cols, *rows),
             EventKind::Restore { bytes } => self.answer_restore(bytes.as_slice()),
             EventKind::Host(_) => Reply::Idle,
-            EventKind::Device { device, what } => self.device_event(alloc, *device, what),
+            EventKind::Device { device, what } => {
+                return Some(self.device_event(alloc, *device, what, budget));
+            }
         };
         Some(Turn::Answered(reply))
     }
@@ -123,7 +125,7 @@ impl<A: Allocator + Copy> Slot<A> {
                     service,
                     taken: None,
                 };
-                Some(self.serve_console(pause, Stage::First, budget, out))
+                Some(self.serve_beside_disk(pause, Stage::First, budget, out))
             }
             Task::PutOut(byte) => {
                 let put_out = self.console_device.emergency(byte, out);
@@ -133,17 +135,17 @@ impl<A: Allocator + Copy> Slot<A> {
         }
     }
 
-    /// Serves a piece of a service of the console. What it puts out is appended to `out`.
+    /// Serves a piece of a service of the console or of a further device. What the console puts out is appended to `out`.
     #[inline(always)]
-    pub(crate) fn serve_console<O: Outlet>(
+    pub(crate) fn serve_beside_disk<O: Outlet>(
         &mut self,
         pause: Pause,
         stage: Stage,
         budget: Budget,
         out: &mut O,
     ) -> Turn<A>
-        requires console { pause.service ≢ Service.Block }
-        ensures console { pause.service ≢ Service.Block }
+        requires beside { pause.service ≢ Service.Block }
+        ensures beside { pause.service ≢ Service.Block }
         ensures serves { (image : List ℕ) (health : Health) →
             ServesTurn (ComesTo pause stage budget) (state_of image self.old) health health
             (state_of image self.new) result (O.bytes out.old) (O.bytes out.new) }
@@ -172,6 +174,10 @@ impl<A: Allocator + Copy> Slot<A> {
                 Ok(progress) => pause.turn(progress),
                 Err(NoMemory) => Turn::Answered(Reply::NoMemory),
             },
+            Service::Further { device, queue } => {
+                let progress = self.serve_further(device, queue, stage, budget);
+                pause.turn(progress)
+            }
         }
     }
 }

@@ -60,8 +60,8 @@ impl<A: Allocator + Copy> Slot<A> {
                     failed,
                 }
             }
-            Service::Receive | Service::Transmit => Answer {
-                turn: self.serve_console(pause, stage, budget, out),
+            Service::Receive | Service::Transmit | Service::Further { .. } => Answer {
+                turn: self.serve_beside_disk(pause, stage, budget, out),
                 failed: false,
             },
         }

@@ -3,9 +3,9 @@
 ghost use Rattle.std.specs.Prelude.{◌≡◌, ◌≢◌, ◌⊎◌, None, Some};
 ghost use Rattle.board_ffi.specs.Calls.{EventKind, IsMissing, MovesOutput, PausesBehind, Reply, Takes, TellsOf};
 
-use crate::codes::{BAD_SLOT, DONE, of_done, of_progress, of_refusal};
+use crate::codes::{BAD_SLOT, DONE, handed, of_done};
 use crate::pending::Pending;
-use session::{Session, Told, Typed};
+use session::{Session, Told};
 
 /// Types bytes to a guest's console, and tells how many were taken, the first ones. What then waits is told.
 #[tactic(auto, using(crate::proofs::Telling::tells))]
@@ -24,13 +24,7 @@ pub(crate) fn input(
 {
     let Told { answer, waits } = session.input(slot, bytes);
     pending.tell_waits(waits);
-    match answer {
-        Ok(Typed { taken, progress }) => {
-            *took = taken;
-            of_progress(progress)
-        }
-        Err(why) => of_refusal(why),
-    }
+    handed(answer, took)
 }
 
 /// Gives a guest's console another size. What then waits is told.

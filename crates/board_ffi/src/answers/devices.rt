@@ -2,16 +2,17 @@
 
 ghost use Rattle.std.specs.Prelude.{◌≡◌, ◌≢◌, ◌++◌, Some, IfErr, IfOk, length};
 ghost use Rattle.board.specs.declared.event.DeviceEvent.{DeviceEvent};
-ghost use Rattle.board_ffi.specs.Calls.{EventKind, HasDevicePending, IsNoDevice, IsTooShort, Reply, Takes, TakesFrame, TellsOf, Writes};
-ghost use Rattle.board_ffi.specs.Codes.{code_at, code_by};
+ghost use Rattle.board_ffi.specs.Calls.{EventKind, HasDevicePending, IsNoDevice, IsTooShort, PausesBehind, Reply, Takes, TakesFrame, TellsOf, Writes};
+ghost use Rattle.board_ffi.specs.Codes.{code_at};
 ghost use Rattle.board_ffi.specs.Devices.{IsCopied, IsLonger, count_of, frame_now, pending_of_device};
 
 use crate::codes::{
-    BAD_SLOT, BAD_WINDOW, DONE, SHORT_BUFFER, of_done, of_refusal, of_served, told,
+    BAD_SLOT, BAD_WINDOW, DONE, SHORT_BUFFER, handed, of_done, of_progress, of_refusal, of_served,
+    told,
 };
 use crate::devices::DevicePending;
 use crate::pending::Pending;
-use session::{DeviceWaits, Refusal, Session};
+use session::{DeviceWaits, Session};
 
 /// A guest's read of a register: what it gets.
 pub(crate) fn read(
@@ -41,7 +42,6 @@ pub(crate) fn write(
 ) -> u32
     ensures writes { Writes slot (Some device) (EventKind.Device device (DeviceEvent.Write offset width value)) result
         session.old session.new }
-    ensures at_once { result ≢ 18 }
     ensures pending { TellsOf slot session.new pending.old pending.new }
 {
     let answer = of_served(session.write_device(slot, device, offset, width, value));
@@ -49,7 +49,7 @@ pub(crate) fn write(
     answer
 }
 
-/// Supplies an entropy device with bytes, or types to a console, and tells how many bytes it took.
+/// Supplies an entropy device with bytes, or types to a console, and tells how many bytes it took, also where its service pauses.
 pub(crate) fn supply(
     session: &mut Session,
     slot: u8,
@@ -59,12 +59,13 @@ pub(crate) fn supply(
 ) -> u32
     ensures takes { Takes slot (EventKind.Device device (DeviceEvent.Supply bytes.now)) result (Reply.Took taken.new)
         session.old session.new }
-    ensures kept { result ≢ 0 → taken.new ≡ taken.old }
+    ensures taken { result ≡ 18 → PausesBehind slot taken.new session.old session.new }
+    ensures kept { result ≢ 0 → result ≢ 18 → taken.new ≡ taken.old }
 {
-    told(session.supply(slot, device, bytes), taken)
+    handed(session.supply(slot, device, bytes), taken)
 }
 
-/// Hands a network card a frame, and tells whether it was taken.
+/// Hands a network card a frame, and tells whether it was taken, also where its service pauses.
 pub(crate) fn receive(
     session: &mut Session,
     slot: u8,
@@ -74,13 +75,20 @@ pub(crate) fn receive(
 ) -> u32
     ensures takes { Takes slot (EventKind.Device device (DeviceEvent.Receive frame.now)) result
         (Reply.Took (count_of frame.now taken.new)) session.old session.new }
-    ensures kept { result ≢ 0 → taken.new ≡ taken.old }
+    ensures taken { result ≡ 18 → PausesBehind slot (count_of frame.now taken.new) session.old session.new }
+    ensures kept { result ≢ 0 → result ≢ 18 → taken.new ≡ taken.old }
 {
-    told(session.receive(slot, device, frame), taken)
+    match session.receive(slot, device, frame) {
+        Ok(handed) => {
+            *taken = handed.taken == frame.len();
+            of_progress(handed.progress)
+        }
+        Err(why) => of_refusal(why),
+    }
 }
 
 /// Moves out what a device's driver sent, the oldest frame of a card or all output of a console, where it finds room, and tells how
-/// many bytes it has.
+/// many bytes it has, also where the service of what there is room for then pauses.
 pub(crate) fn take_frame(
     session: &mut Session,
     slot: u8,
@@ -90,11 +98,11 @@ pub(crate) fn take_frame(
 ) -> u32
     ensures taken { result ≢ 26 → TakesFrame slot device into.old into.new len.new result session.old session.new }
     ensures short { result ≡ 26 → IsTooShort slot device (length into.old) len.new session.old session.new }
-    ensures kept { result ≢ 0 → into.new ≡ into.old }
-    ensures kept_len { result ≢ 0 → result ≢ 26 → len.new ≡ len.old }
+    ensures kept { result ≢ 0 → result ≢ 18 → into.new ≡ into.old }
+    ensures kept_len { result ≢ 0 → result ≢ 18 → result ≢ 26 → len.new ≡ len.old }
 {
     match copy_sent(session, slot, device, into) {
-        Ok(count) => told_len(session.take_sent(slot, device), count, len),
+        Ok(_) => handed(session.drop_sent(slot, device), len),
         Err(count) => {
             *len = count;
             SHORT_BUFFER
@@ -129,21 +137,6 @@ fn copy(front: &[u8], back: &[u8], into: &mut [u8]) -> Result<usize, usize>
     into[..front.len()].copy_from_slice(front);
     into[front.len()..count].copy_from_slice(back);
     Ok(count)
-}
-
-// The number of a call that takes away what was sent, and how many bytes it has where it is done.
-fn told_len(answer: Result<bool, Refusal>, count: usize, len: &mut usize) -> u32
-    ensures number { result ≡ code_by answer }
-    ensures told { result ≡ 0 → len.new ≡ count }
-    ensures kept { result ≢ 0 → len.new ≡ len.old }
-{
-    match answer {
-        Ok(_) => {
-            *len = count;
-            DONE
-        }
-        Err(why) => of_refusal(why),
-    }
 }
 
 /// Sets whether a network card's link is up.

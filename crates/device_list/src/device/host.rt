@@ -1,13 +1,13 @@
 //! What the host of a device hands in and takes.
 
-ghost use Rattle.std.specs.Prelude.{◌≡◌, ◌≢◌, ◌++◌, true, Some, None, IfErr, OnOk, OnErr, IsSome, is_some};
+ghost use Rattle.std.specs.Prelude.{◌≡◌, ◌≢◌, ◌++◌, true, Some, None, IfErr, OnOk, OnErr, is_some};
 ghost use Rattle.std.specs.Bool.{OnTrue, OnFalse};
 ghost use Rattle.std.specs.Option.{option_map};
 ghost use Rattle.guest_memory.specs.Memory.{Memory, SameRange};
 ghost use Rattle.mmio_window.specs.Window.{with_config_changed};
 ghost use Rattle.device_list.specs.Card.{receive_refusal};
-ghost use Rattle.device_list.specs.Device.{IsSoundDevice, Receives, Supplies, TakesSent, Told, linked, resized, supply_taken};
-ghost use Rattle.device_list.specs.Model.{card_of, disk_of, is_at_work, is_starving, outgoing_of, sent_of, terminal_of};
+ghost use Rattle.device_list.specs.Device.{IsSoundDevice, Told, linked, received, resized, supplied, supply_taken, with_model};
+ghost use Rattle.device_list.specs.Model.{card_of, disk_of, is_at_work, is_starving, outgoing_of, sent_of, terminal_of, without_sent};
 ghost use Rattle.hosted_disk.specs.Told.{has_effect};
 
 use crate::device::VirtioDevice;
@@ -17,7 +17,6 @@ use block_device::HostEvent;
 use chain::Chain;
 use guest_memory::GuestMemory;
 use hosted_disk::HostedDisk;
-use network_device::{RECEIVEQ, TRANSMITQ};
 use std::alloc::Allocator;
 
 impl<A: Allocator> VirtioDevice<A> {
@@ -31,46 +30,26 @@ impl<A: Allocator> VirtioDevice<A> {
         )
     }
 
-    /// Takes what the host supplies, serves the queue that waits for it, and answers how many bytes it took: there is no
-    /// answer of a device that takes none.
-    pub(crate) fn supply<M: Allocator>(
-        &mut self,
-        bytes: &[u8],
-        mem: &mut GuestMemory<M>,
-        room: &mut Chain,
-    ) -> Option<usize>
-        requires sound { IsSoundDevice mem.old self.old }
+    /// Takes what the host supplies, and answers how many bytes it took: there is no answer of a device that takes none. Its
+    /// queue 0 is to be served next.
+    pub(crate) fn supply(&mut self, bytes: &[u8]) -> Option<usize>
         ensures taken { result ≡ supply_taken bytes.now self.old }
-        ensures supplies { IsSome result → Supplies bytes.now mem.old mem.new self.old self.new }
+        ensures supplied { self.new ≡ with_model (supplied bytes.now) self.old }
         ensures kept { result ≡ None → self.new ≡ self.old }
-        ensures unwritten { result ≡ None → mem.new ≡ mem.old }
-        ensures range { SameRange mem.old mem.new }
-        ensures sound { IsSoundDevice mem.new self.new }
+        ensures sound { (m : Memory) → IsSoundDevice m self.old → IsSoundDevice m self.new }
     {
-        let taken = self.model.supply(bytes)?;
-        self.model.serve(0, mem, &mut self.window, room);
-        Some(taken)
+        self.model.supply(bytes)
     }
 
-    /// Takes a frame of the host and serves the receive queue, or refuses the frame.
-    pub(crate) fn receive<M: Allocator>(
-        &mut self,
-        frame: &[u8],
-        mem: &mut GuestMemory<M>,
-        room: &mut Chain,
-    ) -> Result<(), ReceiveRefusal>
-        requires sound { IsSoundDevice mem.old self.old }
+    /// Takes a frame of the host, or refuses it. The receive queue is to be served next.
+    pub(crate) fn receive(&mut self, frame: &[u8]) -> Result<(), ReceiveRefusal>
         ensures fits { OnOk result (receive_refusal frame.now (card_of self.old.model) ≡ None) }
-        ensures receives { OnOk result (Receives frame.now mem.old mem.new self.old self.new) }
+        ensures received { OnOk result (self.new ≡ with_model (received frame.now) self.old) }
         ensures refused { IfErr result (λ why. receive_refusal frame.now (card_of self.old.model) ≡ Some why) }
         ensures kept { OnErr result (self.new ≡ self.old) }
-        ensures unwritten { OnErr result (mem.new ≡ mem.old) }
-        ensures range { SameRange mem.old mem.new }
-        ensures sound { IsSoundDevice mem.new self.new }
+        ensures sound { (m : Memory) → IsSoundDevice m self.old → IsSoundDevice m self.new }
     {
-        self.model.receive(frame)?;
-        self.model.serve(RECEIVEQ, mem, &mut self.window, room);
-        Ok(())
+        self.model.receive(frame)
     }
 
     /// What the driver sent and the host takes now, in two parts: a card's oldest frame, or all output of a console.
@@ -80,25 +59,14 @@ impl<A: Allocator> VirtioDevice<A> {
         self.model.sent()
     }
 
-    /// Takes that away, and serves the transmit queue. False where nothing waits: nothing has changed then.
-    pub(crate) fn take_sent<M: Allocator>(
-        &mut self,
-        mem: &mut GuestMemory<M>,
-        room: &mut Chain,
-    ) -> bool
-        requires sound { IsSoundDevice mem.old self.old }
+    /// Takes that away. The transmit queue is to be served next. False where nothing waits: nothing has changed then.
+    pub(crate) fn take_sent(&mut self) -> bool
         ensures found { result ≡ is_some (sent_of self.old.model) }
-        ensures takes { OnTrue result (TakesSent mem.old mem.new self.old self.new) }
+        ensures taken { OnTrue result (self.new ≡ with_model without_sent self.old) }
         ensures kept { OnFalse result (self.new ≡ self.old) }
-        ensures unwritten { OnFalse result (mem.new ≡ mem.old) }
-        ensures range { SameRange mem.old mem.new }
-        ensures sound { IsSoundDevice mem.new self.new }
+        ensures sound { (m : Memory) → IsSoundDevice m self.old → IsSoundDevice m self.new }
     {
-        if !self.model.take_sent() {
-            return false;
-        }
-        self.model.serve(TRANSMITQ, mem, &mut self.window, room);
-        true
+        self.model.take_sent()
     }
 
     /// Sets whether the link is up, and tells the driver (5.1.4). False where it is no network card: nothing has changed then.

@@ -6,7 +6,8 @@ ghost use Rattle.std.specs.List.{slice_get};
 ghost use Rattle.std.specs.Option.{option_and_then, option_map};
 ghost use Rattle.guest_memory.specs.Memory.{Memory, SameRange};
 ghost use Rattle.device_list.specs.Card.{receive_refusal};
-ghost use Rattle.device_list.specs.Device.{Receives, Supplies, TakesSent, Told, linked, resized, supply_taken};
+ghost use Rattle.device_list.specs.Device.{Told, linked, received, resized, supplied, supply_taken, with_model};
+ghost use Rattle.device_list.specs.Model.{without_sent};
 ghost use Rattle.device_list.specs.List.{AreSoundDevices, At, are_at_work, card_at, changed_at, disk_at, is_starved_at, outgoing_at, sent_by, terminal_at};
 ghost use Rattle.hosted_disk.specs.Told.{has_effect};
 
@@ -19,49 +20,31 @@ use hosted_disk::HostedDisk;
 use std::alloc::Allocator;
 
 impl<A: Allocator> DeviceList<A> {
-    /// Hands a device what its host supplies: random bytes, or what is typed to a console. Its queue 0 is served then. Answers how many bytes it took. There is
-    /// no answer of a device that isn't there, or that takes none: nothing has changed then.
-    pub fn supply<M: Allocator>(
-        &mut self,
-        device: u8,
-        bytes: &[u8],
-        mem: &mut GuestMemory<M>,
-        room: &mut Chain,
-    ) -> Option<usize>
-        requires sound { AreSoundDevices mem.old self.old }
+    /// Hands a device what its host supplies: random bytes, or what is typed to a console. Answers how many bytes it took. Its
+    /// queue 0 is to be served next. There is no answer of a device that isn't there, or that takes none: nothing has changed then.
+    pub fn supply(&mut self, device: u8, bytes: &[u8]) -> Option<usize>
         ensures taken { result ≡ option_and_then (supply_taken bytes.now) (slice_get self.old device) }
-        ensures supplies { IsSome result → At (Supplies bytes.now) device mem.old mem.new self.old self.new }
+        ensures supplied { IsSome result → self.new ≡ changed_at (with_model (supplied bytes.now)) device self.old }
         ensures kept { result ≡ None → self.new ≡ self.old }
-        ensures unwritten { result ≡ None → mem.new ≡ mem.old }
-        ensures range { SameRange mem.old mem.new }
-        ensures sound { AreSoundDevices mem.new self.new }
+        ensures sound { (m : Memory) → AreSoundDevices m self.old → AreSoundDevices m self.new }
     {
         let found = self.devices.get_mut(usize::from(device))?;
-        found.supply(bytes, mem, room)
+        found.supply(bytes)
     }
 
-    /// Hands a network card a frame of its host. It waits until the driver offers a chain that it fits: the receive queue is
-    /// served. Where the frame is refused, nothing has changed.
-    pub fn receive<M: Allocator>(
-        &mut self,
-        device: u8,
-        frame: &[u8],
-        mem: &mut GuestMemory<M>,
-        room: &mut Chain,
-    ) -> Result<(), ReceiveRefusal>
-        requires sound { AreSoundDevices mem.old self.old }
+    /// Hands a network card a frame of its host. It waits until the driver offers a chain that it fits: the receive queue is to be
+    /// served next. Where the frame is refused, nothing has changed.
+    pub fn receive(&mut self, device: u8, frame: &[u8]) -> Result<(), ReceiveRefusal>
         ensures fits { OnOk result (receive_refusal frame.now (card_at device self.old) ≡ None) }
-        ensures receives { OnOk result (At (Receives frame.now) device mem.old mem.new self.old self.new) }
+        ensures received { OnOk result (self.new ≡ changed_at (with_model (received frame.now)) device self.old) }
         ensures refused { IfErr result (λ why. receive_refusal frame.now (card_at device self.old) ≡ Some why) }
         ensures kept { OnErr result (self.new ≡ self.old) }
-        ensures unwritten { OnErr result (mem.new ≡ mem.old) }
-        ensures range { SameRange mem.old mem.new }
-        ensures sound { AreSoundDevices mem.new self.new }
+        ensures sound { (m : Memory) → AreSoundDevices m self.old → AreSoundDevices m self.new }
     {
         let Some(found) = self.devices.get_mut(usize::from(device)) else {
             return Err(ReceiveRefusal::NoDevice);
         };
-        found.receive(frame, mem, room)
+        found.receive(frame)
     }
 
     /// Whether the device of this number is there and its driver sends anything that the host takes: a network card, or a
@@ -84,26 +67,18 @@ impl<A: Allocator> DeviceList<A> {
         found.sent()
     }
 
-    /// Takes that away. The transmit queue is served then, since there is room again. False where nothing waits: nothing has
+    /// Takes that away. The transmit queue is to be served next, since there is room again. False where nothing waits: nothing has
     /// changed then.
-    pub fn take_sent<M: Allocator>(
-        &mut self,
-        device: u8,
-        mem: &mut GuestMemory<M>,
-        room: &mut Chain,
-    ) -> bool
-        requires sound { AreSoundDevices mem.old self.old }
+    pub fn take_sent(&mut self, device: u8) -> bool
         ensures found { result ≡ is_some (sent_by device self.old) }
-        ensures takes { OnTrue result (At TakesSent device mem.old mem.new self.old self.new) }
+        ensures taken { OnTrue result (self.new ≡ changed_at (with_model without_sent) device self.old) }
         ensures kept { OnFalse result (self.new ≡ self.old) }
-        ensures unwritten { OnFalse result (mem.new ≡ mem.old) }
-        ensures range { SameRange mem.old mem.new }
-        ensures sound { AreSoundDevices mem.new self.new }
+        ensures sound { (m : Memory) → AreSoundDevices m self.old → AreSoundDevices m self.new }
     {
         let Some(found) = self.devices.get_mut(usize::from(device)) else {
             return false;
         };
-        found.take_sent(mem, room)
+        found.take_sent()
     }
 
     /// Sets whether the link of a network card is up, and tells its driver (5.1.4). False where the device isn't there or is no

@@ -4,39 +4,39 @@ ghost use Rattle.std.specs.Prelude.{◌≡◌, ◌≢◌, ◌⊎◌, ◌<◌, �
 ghost use Rattle.board.specs.declared.event.EventKind.{EventKind};
 ghost use Rattle.session.specs.declared.progress.Progress.{Progress};
 ghost use Rattle.session.specs.declared.refusal.Refusal.{Refusal};
-ghost use Rattle.session.specs.Answering.{Means, done_response, typed_response};
+ghost use Rattle.session.specs.Answering.{Means, done_response, handed_response};
 ghost use Rattle.session.specs.Course.{IsTaken};
 ghost use Rattle.session.specs.Pausing.{IsToldCall, taken_at};
 ghost use Rattle.session.specs.Session.{IsIdle, output_of, waits_at};
 
+use crate::handed::{Handed, handing};
 use crate::refusal::Refusal;
 use crate::response::Turned;
 use crate::session::Session;
 use crate::told::{Told, done};
 use crate::turn_kind::TurnKind;
-use crate::typed::{Typed, typing};
-use board::EventKind;
+use board::{EventKind, InPlace};
 use std::alloc::Allocator;
 
 impl<A: Allocator + Copy> Session<A> {
     /// Types bytes to the guest's console, and answers how many were taken: the first ones. A console keeps
     /// 4096 until its guest reads them. Where more is to come, `go_on` goes on with the service of its receive queue. It
     /// is refused for a bad slot, and while a service of the slot is paused.
-    pub fn input(&mut self, slot: u8, bytes: &[u8]) -> Told<Typed>
+    pub fn input(&mut self, slot: u8, bytes: &[u8]) -> Told<Handed>
         ensures call { IsToldCall {A = A} self.old slot (EventKind.Input bytes.now)
-            (Means typed_response result.answer) self.new }
-        ensures taken { IfOk result.answer (λ typed. typed.progress ≡ Progress.More →
-            taken_at slot self.new ≡ Some typed.taken) }
-        ensures never_asks { IfOk result.answer (λ typed. typed.progress ≢ Progress.Asks) }
+            (Means handed_response result.answer) self.new }
+        ensures taken { IfOk result.answer (λ handed. handed.progress ≡ Progress.More →
+            taken_at slot self.new ≡ Some handed.taken) }
+        ensures never_asks { IfOk result.answer (λ handed. handed.progress ≢ Progress.Asks) }
         ensures refused { IfErr result.answer (λ why. (why ≡ Refusal.BadSlot) ⊎ (why ≡ Refusal.Busy)) }
         ensures bad_slot { IsErrOf result.answer Refusal.BadSlot ↔ (length self.old.slots ≤ slot) }
         ensures busy { IsErrOf result.answer Refusal.Busy ↔ ¬ IsIdle slot self.old }
         ensures waits { result.waits ≡ waits_at slot self.new }
     {
-        let Turned { response, waits } = self.put_in(slot, bytes);
+        let Turned { response, waits } = self.begin_in_place(slot, InPlace::Input(bytes));
         let taken = self.taken(slot);
         Told {
-            answer: typing(response, taken),
+            answer: handing(response, taken),
             waits,
         }
     }
@@ -60,8 +60,8 @@ impl<A: Allocator + Copy> Session<A> {
 }
 
 impl<A: Allocator> Session<A> {
-    // How many bytes the event took whose service is paused, where it typed some.
-    fn taken(&self, slot: u8) -> Option<usize>
+    // How many bytes the event took whose service is paused, where it handed in some.
+    pub(crate) fn taken(&self, slot: u8) -> Option<usize>
         ensures { result ≡ taken_at slot self.now }
     {
         self.paused(slot)?.taken

@@ -1,27 +1,28 @@
 //! What is done to a guest's further devices: its driver's registers, and what its host hands in and takes. Nothing here
 //! takes memory.
 
-ghost use Rattle.std.specs.Prelude.{◌≡◌, ◌≢◌, ◌↔◌, ◌≤◌, ◌++◌, length, IfOk, IsErrOf, IsSome, IsTrue, ◌⊎◌, IfErr};
+ghost use Rattle.std.specs.Prelude.{◌≡◌, ◌≢◌, ◌↔◌, ◌≤◌, ◌++◌, length, Some, IfErr, IfOk, IsErrOf, ◌⊎◌};
 ghost use Rattle.std.specs.Option.{option_map};
 ghost use Rattle.board.specs.declared.event.DeviceEvent.{DeviceEvent};
 ghost use Rattle.board.specs.declared.event.EventKind.{EventKind};
 ghost use Rattle.session.specs.declared.progress.Progress.{Progress};
 ghost use Rattle.session.specs.declared.refusal.Refusal.{Refusal};
 ghost use Rattle.session.specs.declared.response.Response.{Response};
-ghost use Rattle.session.specs.Answering.{IsReading, IsTakenWhole, IsTaking, Means, SuitsCall, done_response, frame_response, served_response, taken_response, took_response, value_response};
-ghost use Rattle.session.specs.Devices.{TakesNothing, device_waits_at, sent_at};
+ghost use Rattle.session.specs.Answering.{IsReading, Means, SuitsCall, done_response, handed_response, served_response, value_response};
+ghost use Rattle.session.specs.Devices.{TakesNothing, device_waits_at, sent_at, sent_count};
 ghost use Rattle.session.specs.Disks.{DiskHasAsked};
 ghost use Rattle.session.specs.Operations.{HoldsUp};
-ghost use Rattle.session.specs.Pausing.{IsEventCall, IsToldCall};
+ghost use Rattle.session.specs.Pausing.{IsEventCall, IsToldCall, taken_at};
 ghost use Rattle.session.specs.Session.{AnswersInPlace, IsIdle};
 
+use crate::handed::{Handed, handing};
 use crate::progress::{Progress, has_asked, served};
 use crate::refusal::Refusal;
 use crate::response::{Response, Turned};
 use crate::session::Session;
 use crate::told::{DeviceWaits, done};
 use crate::turn_kind::TurnKind;
-use board::{DeviceEvent, EventKind, Reply};
+use board::{DeviceEvent, EventKind, InPlace, Reply};
 use std::alloc::Allocator;
 
 impl<A: Allocator + Copy> Session<A> {
@@ -45,8 +46,9 @@ impl<A: Allocator + Copy> Session<A> {
         gave(self.device_event(slot, device, read))
     }
 
-    /// A guest's write of a further device's window (4.2.2). A queue that it notifies is served to its end, and operations of a
-    /// disk may begin. It is refused for a bad slot or device, while a service of the slot is paused, and where it is one of a
+    /// A guest's write of a further device's window (4.2.2). A queue that it notifies is served to its end, or until the budget
+    /// is spent: then more is to come, and `go_on` goes on with it. A look at a disk's queue is never cut, and operations of it
+    /// may begin. It is refused for a bad slot or device, while a service of the slot is paused, and where it is one of a
     /// disk's Status or QueueReady while something of that is in flight.
     pub fn write_device(
         &mut self,
@@ -60,7 +62,6 @@ impl<A: Allocator + Copy> Session<A> {
             (Means served_response result) self.new }
         ensures asks { IfOk result (λ progress.
             (progress ≡ Progress.Asks) ↔ DiskHasAsked slot device self.old self.new) }
-        ensures at_once { IfOk result (λ progress. progress ≢ Progress.More) }
         ensures bad_slot { IsErrOf result Refusal.BadSlot ↔ (length self.old.slots ≤ slot) }
         ensures busy { IsErrOf result Refusal.Busy ↔
             ((¬ IsIdle slot self.old)
@@ -68,14 +69,17 @@ impl<A: Allocator + Copy> Session<A> {
         ensures bad_device { IsErrOf result Refusal.BadDevice ↔
             (IsIdle slot self.old × TakesNothing {A = A} slot device (DeviceEvent.Write offset width value) self.old) }
     {
-        if self.is_paused(slot) {
-            return Err(Refusal::Busy);
-        }
+        let write = InPlace::Write {
+            device,
+            offset,
+            width,
+            value,
+        };
         let before = self.disk_in_flight(slot, device);
-        let reply = self.board.write_device(slot, device, offset, width, value);
+        let Turned { response, waits: _ } = self.begin_in_place(slot, write);
         let after = self.disk_in_flight(slot, device);
         let asks = has_asked(before, after);
-        served(Response::Answered(reply), asks)
+        served(response, asks)
     }
 
     /// Sets whether a network card's link is up, and tells its driver (5.1.4). It is refused for a bad slot, for a device that is no
@@ -123,60 +127,72 @@ impl<A: Allocator + Copy> Session<A> {
         response
     }
 
-    /// Supplies an entropy device with random bytes (5.4), or types to a console (5.3), and answers how many bytes it took: the first
-    /// ones. The chains on offer are filled then. It is refused for a bad slot, for a device that takes none, and while a service of the slot is paused.
-    pub fn supply(&mut self, slot: u8, device: u8, bytes: &[u8]) -> Result<usize, Refusal>
+    /// Supplies an entropy device with random bytes (5.4), or types to a console (5.3), and answers how many were taken: the
+    /// first ones. The chains on offer are filled then. Where more is to come, `go_on` goes on with that. It is refused for a bad
+    /// slot, for a device that takes none, and while a service of the slot is paused.
+    pub fn supply(&mut self, slot: u8, device: u8, bytes: &[u8]) -> Result<Handed, Refusal>
         ensures call { IsToldCall {A = A} self.old slot (EventKind.Device device (DeviceEvent.Supply bytes.now))
-            (Means took_response result) self.new }
+            (Means handed_response result) self.new }
+        ensures taken { IfOk result (λ handed. handed.progress ≡ Progress.More →
+            taken_at slot self.new ≡ Some handed.taken) }
+        ensures never_asks { IfOk result (λ handed. handed.progress ≢ Progress.Asks) }
         ensures bad_slot { IsErrOf result Refusal.BadSlot ↔ (length self.old.slots ≤ slot) }
         ensures busy { IsErrOf result Refusal.Busy ↔ ¬ IsIdle slot self.old }
         ensures bad_device { IsErrOf result Refusal.BadDevice ↔
             (IsIdle slot self.old × TakesNothing {A = A} slot device (DeviceEvent.Supply bytes.now) self.old) }
     {
-        if self.is_paused(slot) {
-            return Err(Refusal::Busy);
-        }
-        took(self.board.supply(slot, device, bytes))
+        let Turned { response, waits: _ } = self.begin_in_place(
+            slot,
+            InPlace::Supply { device, bytes },
+        );
+        let taken = self.taken(slot);
+        handing(response, taken)
     }
 
-    /// Hands a network card a frame (5.1), and answers whether it was taken: whole, or not at all where there is no room for it
-    /// until its driver has taken others. It is refused for a bad slot, for a frame of no bytes, for a device that is no network card
-    /// or whose frames are shorter, and while a service of the slot is paused.
-    pub fn receive(&mut self, slot: u8, device: u8, frame: &[u8]) -> Result<bool, Refusal>
+    /// Hands a network card a frame (5.1), and answers how many of its bytes were taken: all, or none where there is no room for
+    /// it until its driver has taken others. The chains on offer are filled then. Where more is to come, `go_on` goes on with
+    /// that. It is refused for a bad slot, for a frame of no bytes, for a device that is no network card or whose frames are
+    /// shorter, and while a service of the slot is paused.
+    pub fn receive(&mut self, slot: u8, device: u8, frame: &[u8]) -> Result<Handed, Refusal>
         ensures call { IsToldCall {A = A} self.old slot (EventKind.Device device (DeviceEvent.Receive frame.now))
-            (Means (taken_response frame.now) result) self.new }
+            (Means handed_response result) self.new }
+        ensures whole { IfOk result (λ handed. (handed.taken ≡ length frame.now) ⊎ (handed.taken ≡ 0)) }
+        ensures taken { IfOk result (λ handed. handed.progress ≡ Progress.More →
+            taken_at slot self.new ≡ Some handed.taken) }
+        ensures never_asks { IfOk result (λ handed. handed.progress ≢ Progress.Asks) }
         ensures bad_slot { IsErrOf result Refusal.BadSlot ↔ (length self.old.slots ≤ slot) }
         ensures busy { IsErrOf result Refusal.Busy ↔ ¬ IsIdle slot self.old }
         ensures bad_device { IsErrOf result Refusal.BadDevice ↔
             (IsIdle slot self.old × TakesNothing {A = A} slot device (DeviceEvent.Receive frame.now) self.old) }
     {
-        if self.is_paused(slot) {
-            return Err(Refusal::Busy);
-        }
-        took_frame(self.board.receive(slot, device, frame), frame)
+        let Turned { response, waits: _ } = self.begin_in_place(
+            slot,
+            InPlace::Receive { device, frame },
+        );
+        let taken = self.taken(slot);
+        handing(response, taken)
     }
 
-    /// Takes away what `sent` tells, and answers whether anything waited. It is refused for a bad slot, for a device that is no
-    /// network card and no console, and while a service of the slot is paused.
-    pub fn take_sent(&mut self, slot: u8, device: u8) -> Result<bool, Refusal>
-        ensures call { IsToldCall {A = A} self.old slot (EventKind.Device device DeviceEvent.TakeSent)
-            (Means (frame_response (sent_at slot device self.old.slots)) result) self.new }
-        ensures taken { IfOk result (λ taken.
-            IsTrue taken ↔ IsSome (sent_at slot device self.old.slots)) }
+    /// Drops what `sent` tells, since it was copied, and answers how many bytes that was: none where nothing waits. The chains on
+    /// offer for which there is room then are served. Where more is to come, `go_on` goes on with that. It is refused for a bad
+    /// slot, for a device that is no network card and no console, and while a service of the slot is paused.
+    pub fn drop_sent(&mut self, slot: u8, device: u8) -> Result<Handed, Refusal>
+        ensures call { IsToldCall {A = A} self.old slot (EventKind.Device device DeviceEvent.DropSent)
+            (Means handed_response result) self.new }
+        ensures count { IfOk result (λ handed. handed.taken ≡ sent_count (sent_at slot device self.old.slots)) }
         ensures refused { IfErr result (λ why.
             (why ≡ Refusal.BadSlot) ⊎ (why ≡ Refusal.Busy) ⊎ (why ≡ Refusal.BadDevice)) }
+        ensures taken { IfOk result (λ handed. handed.progress ≡ Progress.More →
+            taken_at slot self.new ≡ Some handed.taken) }
+        ensures never_asks { IfOk result (λ handed. handed.progress ≢ Progress.Asks) }
         ensures bad_slot { IsErrOf result Refusal.BadSlot ↔ (length self.old.slots ≤ slot) }
         ensures busy { IsErrOf result Refusal.Busy ↔ ¬ IsIdle slot self.old }
         ensures bad_device { IsErrOf result Refusal.BadDevice ↔
-            (IsIdle slot self.old × TakesNothing {A = A} slot device DeviceEvent.TakeSent self.old) }
+            (IsIdle slot self.old × TakesNothing {A = A} slot device DeviceEvent.DropSent self.old) }
     {
-        if self.is_paused(slot) {
-            return Err(Refusal::Busy);
-        }
-        let Some(taken) = self.board.take_sent(slot, device) else {
-            return Err(Refusal::of_device(slot, self.slots()));
-        };
-        Ok(taken)
+        let Turned { response, waits: _ } = self.begin_in_place(slot, InPlace::DropSent { device });
+        let taken = self.taken(slot);
+        handing(response, taken)
     }
 }
 
@@ -221,27 +237,5 @@ fn gave<A: Allocator>(response: Response<A>) -> Result<u32, Refusal>
     match response {
         Response::Answered(Reply::Value(value)) => Ok(value),
         response => Err(Refusal::of(&response)),
-    }
-}
-
-// How many bytes a device took.
-fn took<A: Allocator>(reply: Reply<A>) -> Result<usize, Refusal>
-    requires { IsTaking (Response.Answered reply) }
-    ensures { Means took_response result (Response.Answered reply) }
-{
-    match reply {
-        Reply::Took(count) => Ok(count),
-        reply => Err(Refusal::of(&Response::Answered(reply))),
-    }
-}
-
-// Whether a frame was taken.
-fn took_frame<A: Allocator>(reply: Reply<A>, frame: &[u8]) -> Result<bool, Refusal>
-    requires { IsTakenWhole frame.now reply }
-    ensures { Means (taken_response frame.now) result (Response.Answered reply) }
-{
-    match reply {
-        Reply::Took(count) => Ok(count == frame.len()),
-        reply => Err(Refusal::of(&Response::Answered(reply))),
     }
 }

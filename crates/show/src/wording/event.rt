@@ -97,6 +97,8 @@ fn say_device_event(text: &mut Text, what: &DeviceEvent, kind: Option<DeviceKind
         }
         DeviceEvent::TakeSent if is_console => text.say("the host takes the output"),
         DeviceEvent::TakeSent => text.say("the host takes a frame"),
+        DeviceEvent::DropSent if is_console => text.say("the host drops the output"),
+        DeviceEvent::DropSent => text.say("the host drops a frame"),
         DeviceEvent::SetLink { up: true } => text.say("the link goes up"),
         DeviceEvent::SetLink { up: false } => text.say("the link goes down"),
         DeviceEvent::Resize { cols, rows } => say_resized(text, *cols, *rows),

@@ -57,6 +57,12 @@ pub(crate) fn device_of<'a, A: Allocator>(
             };
             ParsedEvent::device(slot as u8, device as u8, DeviceEvent::TakeSent, &[])
         }
+        Word::DropSent => {
+            let &[Number(slot), Number(device)] = values else {
+                unreachable!()
+            };
+            ParsedEvent::device(slot as u8, device as u8, DeviceEvent::DropSent, &[])
+        }
         Word::SetLink => {
             let &[Number(slot), Number(device), Link(up)] = values else {
                 unreachable!()

@@ -125,6 +125,7 @@ fn parsed_of<'a, A: Allocator>(
         | Word::Supply
         | Word::Receive
         | Word::TakeSent
+        | Word::DropSent
         | Word::SetLink
         | Word::DeviceResize
         | Word::DeviceComplete

@@ -1,12 +1,12 @@
 //! The further devices of a guest: which it gets, what a session answers for them, and what can be seen of them.
 
-use super::events::{put_progress, put_value};
+use super::events::{put_handed, put_progress, put_value};
 use super::{Guests, event_of};
 use crate::calls::answer::{put_bytes, put_flag, put_number, put_result, put_word, written};
 use crate::calls::subject::{Answered, Stuck};
 use crate::calls::words::Words;
 use board::{DeviceEvent, EventKind};
-use session::{DeviceWaits, Refusal, Segment, Session};
+use session::{DeviceWaits, Segment, Session};
 use std::alloc::{Allocator, Global};
 
 impl<'h, B: Allocator> Guests<'h, B> {
@@ -16,7 +16,7 @@ impl<'h, B: Allocator> Guests<'h, B> {
             "gets" => self.get_device(words, answer),
             "waits" => self.see_device(words, answer),
             "asked" => self.see_operation(words, answer),
-            "take_sent" => self.take_frame(words, answer),
+            "drop_sent" => self.take_frame(words, answer),
             _ => self.event(words.whole(), answer),
         }
     }
@@ -58,7 +58,7 @@ impl<'h, B: Allocator> Guests<'h, B> {
         put_operation(answer, session, words.u8(), words.u8(), words.u8())
     }
 
-    // Takes the oldest frame that a network card sent.
+    // Copies the oldest frame that a network card sent, or all output of a console, and drops it.
     fn take_frame(&mut self, words: &mut Words<'_>, answer: &mut String) -> Answered {
         let Some(session) = &mut self.session else {
             return Err(Stuck::Conditions);
@@ -76,8 +76,8 @@ pub(super) fn answer_device<A: Allocator + Copy>(
     answer: &mut String,
 ) -> Answered {
     match what {
-        // a session's guests get their devices when it is made
-        DeviceEvent::Plug(_) => Err(Stuck::Conditions),
+        // a session's guests get their devices when it is made, and its host copies what was sent before it drops it
+        DeviceEvent::Plug(_) | DeviceEvent::TakeSent => Err(Stuck::Conditions),
         DeviceEvent::Read { offset, width } => put_value(
             answer,
             session.read_device(slot, device, *offset, *width),
@@ -90,15 +90,15 @@ pub(super) fn answer_device<A: Allocator + Copy>(
             answer,
             session.write_device(slot, device, *offset, *width, *value),
         ),
-        DeviceEvent::Supply { bytes } => put_count(
+        DeviceEvent::Supply { bytes } => put_handed(
             answer,
             session.supply(slot, device, bytes.as_slice()),
         ),
-        DeviceEvent::Receive { frame } => put_taken(
+        DeviceEvent::Receive { frame } => put_handed(
             answer,
             session.receive(slot, device, frame.as_slice()),
         ),
-        DeviceEvent::TakeSent => put_taken(answer, session.take_sent(slot, device)),
+        DeviceEvent::DropSent => put_handed(answer, session.drop_sent(slot, device)),
         DeviceEvent::SetLink { up } => put_result(answer, session.set_link(slot, device, *up)),
         DeviceEvent::Resize { cols, rows } => {
             put_result(answer, session.resize_device(slot, device, *cols, *rows))
@@ -157,7 +157,7 @@ fn put_operation<A: Allocator>(
     put_word(answer, if operation.stable { " stable" } else { "" })
 }
 
-// The oldest frame that was sent, where there is one, and whether it was taken.
+// What was sent, where anything was, and what is answered to who drops it.
 fn put_frame<A: Allocator + Copy>(
     alloc: Global,
     answer: &mut String,
@@ -171,7 +171,7 @@ fn put_frame<A: Allocator + Copy>(
         put_bytes(alloc, answer, &frame)?;
         put_word(answer, " ")?;
     }
-    put_taken(answer, session.take_sent(slot, device))
+    put_handed(answer, session.drop_sent(slot, device))
 }
 
 // The runs of an operation.
@@ -181,20 +181,4 @@ fn put_runs(answer: &mut String, runs: &[Segment]) -> Answered {
         written(write!(answer, " {addr:x}+{len:x}"))?;
     }
     Ok(())
-}
-
-// How many bytes were taken, or the refusal.
-fn put_count(answer: &mut String, count: Result<usize, Refusal>) -> Answered {
-    match count {
-        Ok(count) => put_number(answer, count as u64),
-        Err(why) => put_result(answer, Err(why)),
-    }
-}
-
-// Whether a frame was taken, or the refusal.
-fn put_taken(answer: &mut String, taken: Result<bool, Refusal>) -> Answered {
-    match taken {
-        Ok(taken) => put_flag(answer, taken),
-        Err(why) => put_result(answer, Err(why)),
-    }
 }

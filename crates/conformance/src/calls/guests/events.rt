@@ -4,7 +4,7 @@ use super::devices::answer_device;
 use crate::calls::answer::{put_bytes, put_number, put_result, put_word, written};
 use crate::calls::subject::Answered;
 use board::{EventKind, HostEvent};
-use session::{Progress, Refusal, Session, Typed};
+use session::{Handed, Progress, Refusal, Session};
 use std::alloc::{Allocator, Global};
 
 /// Makes the call of an event of a slot.
@@ -40,7 +40,7 @@ pub(super) fn answer_event<A: Allocator + Copy>(
         EventKind::MemWrite { addr, bytes } => {
             put_result(answer, session.write_memory(slot, *addr, bytes.as_slice()))
         }
-        EventKind::Input { bytes } => put_typed(
+        EventKind::Input { bytes } => put_handed(
             answer,
             session.input(slot, bytes.as_slice()).answer,
         ),
@@ -105,10 +105,10 @@ fn told(progress: Progress) -> &'static str {
     }
 }
 
-// How many bytes were taken, and whether the service is paused.
-fn put_typed(answer: &mut String, typed: Result<Typed, Refusal>) -> Answered {
-    match typed {
-        Ok(Typed { taken, progress }) => {
+/// How many bytes were taken, and whether the service is paused.
+pub(super) fn put_handed(answer: &mut String, handed: Result<Handed, Refusal>) -> Answered {
+    match handed {
+        Ok(Handed { taken, progress }) => {
             let told = told(progress);
             written(write!(answer, "{taken:x} {told}"))
         }

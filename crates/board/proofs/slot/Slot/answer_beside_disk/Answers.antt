@@ -5,9 +5,11 @@ use Rattle.board.specs.Hosting.{must_wait}
 use Rattle.board.specs.Slot.{BoardSlot, state_of}
 use Rattle.board.proofs.Beside.{keeps_as, keeps_on, range_of}
 use Rattle.board.proofs.Blocks.{read_given, told_given}
+use Rattle.board.specs.Machine.{at_rest}
+use Rattle.board.proofs.FurtherPieces.{device_within}
 use Rattle.board.proofs.Turns.{comes_first, silent_answer}
 use Rattle.board.proofs.slot.Slot.answer_beside_disk.Goals as goal
-use Rattle.board.proofs.slot.Slot.answer_beside_disk.Goals.{in-Read, in-MemRead, in-MemWrite, in-Resize, in-Restore, in-Host, in-Device}
+use Rattle.board.proofs.slot.Slot.answer_beside_disk.Goals.{in-Read, in-MemRead, in-MemWrite, in-Resize, in-Restore, in-Host}
 
 -- a restore waits
 waits : {A : Type 0} {what : EventKind A} {bytes : List ℕ} → what ≡ Restore bytes → must_wait what ≡ false → ⊥
@@ -27,6 +29,13 @@ returns-in-Input-clause-keeps g c =
     (keeps_on _ c.args.self.now _ (keeps_as _ _ _ refl refl refl refl refl)
     (ap (λ (slot : BoardSlot). slot.block) typed.rest) (ap (λ (slot : BoardSlot). slot.host) typed.rest)
     typed.range (ap (λ (slot : BoardSlot). slot.extent) typed.rest))
+
+pub returns-in-Device-clause-within : goal.returns-in-Device-clause-within
+returns-in-Device-clause-within g c = λ image limit limited.
+    rw (c.in-Device.is)
+    (device_within {A = g.row.A.Denot} limit c.in-Device.device c.in-Device.what c.args.budget
+    (state_of image c.args.self.now) at_rest (state_of image c.device_event.new.self)
+    (g.O.Outlet.bytes c.args.out.now) c.device_event.result (c.device_event.ensures.begins image at_rest))
 
 pub returns-clause-serves : goal.returns-clause-serves
 returns-clause-serves g c = λ image health filled.
@@ -49,9 +58,6 @@ returns-clause-serves g c = λ image health filled.
           (w.answer_restore-reply.ensures.given image health filled))
       | in-Host w ↦ rw (w.self-is, w.reply-is, w.in-Host.is)
           (silent_answer _ c.args.budget _ _ _ _ _ out refl (told_given (state_of image slot) _ health))
-      | in-Device w ↦ rw (w.self-is, w.reply-is, w.in-Device.is)
-          (silent_answer _ c.args.budget _ _ _ _ _ out refl
-          (w.device_event-reply.ensures.given image health))
     ]
 
 pub returns-clause-keeps : goal.returns-clause-keeps
@@ -81,10 +87,4 @@ returns-clause-keeps g c =
             extent = restored.extent;
           })
       | in-Host w ↦ rw (w.self-is, w.in-Host.is) (keeps_as slot slot _ refl refl refl refl refl)
-      | in-Device w ↦
-          let done = w.device_event-reply.ensures in
-          rw (w.self-is, w.in-Device.is)
-          (keeps_on slot slot _ (keeps_as slot slot _ refl refl refl refl refl)
-          (ap (λ (s : BoardSlot). s.block) done.rest) (ap (λ (s : BoardSlot). s.host) done.rest) done.range
-          (ap (λ (s : BoardSlot). s.extent) done.rest))
     ]

@@ -27,12 +27,12 @@ returns-in-Block-clause-serves g c = λ tells.
 
 pub returns-in-Receive-clause-serves : goal.returns-in-Receive-clause-serves
 returns-in-Receive-clause-serves g c = λ tells.
-    c.serve_console.ensures.serves (bytes_of (g.I.Image.disk c.args.cache.now))
+    c.serve_beside_disk.ensures.serves (bytes_of (g.I.Image.disk c.args.cache.now))
     (health_of (g.I.Image.disk c.args.cache.now))
 
 pub returns-in-Receive-clause-within : goal.returns-in-Receive-clause-within
 returns-in-Receive-clause-within g c = λ limit limited.
-    c.serve_console.ensures.within (bytes_of (g.I.Image.disk c.args.cache.now)) limit limited
+    c.serve_beside_disk.ensures.within (bytes_of (g.I.Image.disk c.args.cache.now)) limit limited
 
 pub returns-in-Receive-clause-touches : goal.returns-in-Receive-clause-touches
 returns-in-Receive-clause-touches g c =

@@ -38,9 +38,9 @@ returns-in-Serve g c =
     let task_is : (image : List ℕ) → task image ≡ Serve c.in-Serve.service =
     λ image. sym (written.task image) ∙ c.in-Serve.is in
     let what : EventKind g.row.A.Denot = Write c.args.window c.args.offset c.args.width c.args.value in
-    let served = c.serve_console in
+    let served = c.serve_beside_disk in
     record {
-      notified = λ image. not_block (task image) c.in-Serve.service (task_is image) served.ensures.console;
+      notified = λ image. not_block (task image) c.in-Serve.service (task_is image) served.ensures.beside;
       readied = tt;
       silent = tt;
       serves = λ image health.

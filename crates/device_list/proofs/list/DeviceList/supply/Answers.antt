@@ -1,7 +1,7 @@
-use Rattle.device_list.proofs.Sound.{all_sound}
+use Rattle.device_list.proofs.Sound.{one_changed}
 use Rattle.device_list.proofs.list.DeviceList.supply.Goals as goal
 
 pub returns-clause-sound : goal.returns-clause-sound
-returns-clause-sound g c =
-    all_sound c.args.mem.now c.supply.new.mem c.self.inside.devices.items c.args.self.now c.from.result c.supply.new.self
-    c.self.view_is c.supply.ensures.range c.requires.sound c.supply.ensures.sound
+returns-clause-sound g c = λ m sound.
+    one_changed m c.self.inside.devices.items c.args.self.now c.from.result c.in_ok-found.found.now c.supply.new.self
+    c.self.view_is c.in_ok-found.ensures.item.3.0 c.in_ok-found.ensures.item.1 (c.supply.ensures.sound m) sound

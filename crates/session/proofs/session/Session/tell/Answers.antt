@@ -22,7 +22,7 @@ returns-clause-asks g c =
 
 pub returns-clause-at_once : goal.returns-clause-at_once
 returns-clause-at_once g c =
-    at_once c.args.device (Host c.args.said) c.device_event-response.result c.served.result c.served.ensures.told
+    at_once c.args.device c.args.said c.device_event-response.result c.served.result c.served.ensures.told
     c.device_event-response.ensures.suits
 
 says : (g : _) (c : goal.After-served g)
