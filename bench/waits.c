@@ -1,7 +1,7 @@
 /*
  * How long fifteen guests wait for a 4 KiB IN beside one that keeps the board as busy as it can, under one lock:
- * without a budget, with two, and where the host serves the disks, by a disk, by a console and by further devices, whose
- * services no budget cuts. bench/waits builds it.
+ * without a budget, with two, and where the host serves the disks, by a disk, by a console and by further devices. bench/waits
+ * builds it.
  *
  * In each round every guest asks at once, the hostile one is called first, and the others one after another. What each
  * of them waits is the time from the round's start to the end of its own call. A host that serves the disks moves no
@@ -295,13 +295,13 @@ static uint32_t call_further(const struct hostile *it, uint32_t answer)
     return call_window(it->window, 1, answer);
 }
 
-/* Takes what the hostile guest's consoles put out, between the rounds. */
-static void take_text(const struct hostile *it)
+/* Takes what the hostile guest's consoles put out, between the rounds; of a further one once its service has ended. */
+static void take_text(const struct hostile *it, uint32_t answer)
 {
     static uint8_t text[TEXT];
     size_t taken;
     must(kalyubos_take_output(&board, 0, text, sizeof text, &taken));
-    if (it->window == CONSOLE)
+    if (it->window == CONSOLE && answer != KALYUBOS_MORE)
         must(kalyubos_take_frame(&board, 0, CONSOLE, text, sizeof text, &taken));
 }
 
@@ -325,7 +325,7 @@ static void run_hosted(const struct hostile *it, int run)
         bring_up(i, LEN, 1);
     uint32_t answer = KALYUBOS_DONE;
     for (calls = 0; calls < it->calls; calls++) {
-        take_text(it);
+        take_text(it, answer);
         double start = now();
         answer = it->call(it, answer);
         keep_best(&call_took[calls], now() - start, run);
@@ -391,9 +391,13 @@ int main(void)
                 (struct hostile){ begin_texts, call_console, CHAINS, 1, 1, 0, 0, 0 });
     time_hosted("256 tables of 256 buffers to a disk, 1 chain",
                 (struct hostile){ begin_others, call_other, CHAINS / RING, 1, 1, 0, 0, 0 });
-    time_hosted("256 tables of 256 bytes to a further console",
-                (struct hostile){ begin_further, call_further, CHAINS / RING, 1, 1, 0, 0, CONSOLE });
-    time_hosted("256 tables of 256 buffers to a card",
-                (struct hostile){ begin_further, call_further, CHAINS / RING, 1, 1, 0, 0, CARD });
+    time_hosted("256 tables to a further console, no budget",
+                (struct hostile){ begin_further, call_further, CHAINS / RING, 1, 0, 0, 0, CONSOLE });
+    time_hosted("256 tables to a further console, 1 chain",
+                (struct hostile){ begin_further, call_further, CHAINS, 1, 1, 0, 0, CONSOLE });
+    time_hosted("256 tables of 256 buffers to a card, no budget",
+                (struct hostile){ begin_further, call_further, CHAINS / RING, 1, 0, 0, 0, CARD });
+    time_hosted("256 tables of 256 buffers to a card, 1 chain",
+                (struct hostile){ begin_further, call_further, CHAINS, 1, 1, 0, 0, CARD });
     return 0;
 }

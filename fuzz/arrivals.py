@@ -2,7 +2,7 @@
 
 In a sane guest a chain's used entry counts what its buffers got (2.7.8). Entropy buffers hold the supplied bytes, in order and each once
 (5.4.6). A frame that was handed over arrives whole behind its header, in order, once or never (5.1.6.4); a frame that the host takes is
-one that the driver offered, whole and in order (5.1.6.2), and all that the card used come out. InterruptStatus tells of used chains,
+one that the driver offered, whole and in order (5.1.6.2), one that it drops is as long, and all that the card used come out. InterruptStatus tells of used chains,
 unless the driver suppresses that (2.7.7, 2.8.10), and of links (2.5), and of nothing else.
 """
 import collections
@@ -117,7 +117,7 @@ class Entropy(Device):
     BYTES = "bytes of entropy"
 
     def supply(self, answer, given):
-        taken = int(answer.removeprefix("took:"), 16)
+        taken = count_of(answer)
         self.supplied += given[:taken]
         self.counts[f"{self.BYTES} supplied"] += taken
 
@@ -143,6 +143,9 @@ class Console(Entropy):
 
     def take(self, answer):
         self.counts["bytes taken of further consoles"] += len(bytes_of(answer))
+
+    def drop(self, answer):
+        self.counts["bytes dropped of further consoles"] += count_of(answer)
 
 
 class Disk(Device):
@@ -187,15 +190,24 @@ class Card(Device):
 
     def take(self, answer):
         frame = bytes_of(answer)
-        if not frame:
-            return
+        if frame:
+            self.came_out(len(frame), frame)
+            self.counts["frames taken"] += 1
+
+    def drop(self, answer):
+        if count_of(answer):
+            self.came_out(count_of(answer))
+            self.counts["frames dropped"] += 1
+
+    def came_out(self, length, frame=None):
+        """What was sent next is out; of a frame that was dropped the length alone is known."""
         waits = self.coming or self.offered
-        if not waits or waits[0].sent[HEADER:] != frame:
-            raise Wrong(f"a frame {frame[:20].hex()} of {len(frame)} bytes isn't what was sent next")
+        sent = waits[0].sent[HEADER:] if waits else b""
+        if len(sent) != length or frame not in (None, sent):
+            raise Wrong(f"a frame {(frame or b'')[:20].hex()} of {length} bytes isn't what was sent next")
         if not self.coming:
             self.early.append(waits[0])
         waits.popleft()
-        self.counts["frames taken"] += 1
 
 
 def number_at(data, at, length):
@@ -205,6 +217,11 @@ def number_at(data, at, length):
 def value_of(answer):
     """What a reply of a register has."""
     return int(answer.removeprefix("v:"), 16)
+
+
+def count_of(answer):
+    """How many bytes a reply says."""
+    return int(answer.removeprefix("took:"), 16)
 
 
 def bytes_of(answer):

@@ -1,7 +1,8 @@
 /*
  * Each answer is judged by what the guest's description says: DONE where it has such a device, else BAD_WINDOW. A window's word
  * is its InterruptStatus, and a frame that comes out has the length that was told to wait. A device whose driver is starved takes
- * what it waits for. Now and then the pages that a call changes are compared with those that are marked.
+ * what it waits for. Now and then the pages that a service changes are compared with those that are marked. A service that pauses
+ * is brought to its end, and others are served meanwhile.
  */
 #include "further.h"
 
@@ -11,11 +12,11 @@
 
 enum { INTERRUPT_STATUS = 0x60, ETHERNET = 14, LONGEST = 1 << 16, MOST_AT_ONCE = 5000, LAST_WINDOW = 255 };
 
-/* ---- the pages that a call changes */
+/* ---- the pages that a service changes */
 
 enum { PAGE = 4096 };
 static _Thread_local struct {
-    bool are_kept;
+    const struct seat *of; /* whose are kept; others that are served meanwhile have none */
     uint8_t bits[1 << 16], before[1 << 20];
 } pages;
 
@@ -37,9 +38,10 @@ static void keep_pages(const struct seat *seat, struct kalyubos_loan bits)
 static void begin_pages(struct seat *seat)
 {
     uint8_t *at = pages.before;
-    pages.are_kept = chance(seat, 4) == 0 && memory_size(seat->guest) <= sizeof pages.before;
-    if (!pages.are_kept)
+    bool is_wanted = chance(seat, 4) == 0 && memory_size(seat->guest) <= sizeof pages.before;
+    if (!is_wanted || pages.of != NULL)
         return;
+    pages.of = seat;
     for (size_t i = 0; i < seat->guest->regions_len; at += seat->guest->regions[i++].len)
         memcpy(at, region_of(seat, i), seat->guest->regions[i].len);
     memset(pages.bits, 0, sizeof pages.bits);
@@ -50,8 +52,9 @@ static void begin_pages(struct seat *seat)
 static void end_pages(struct seat *seat)
 {
     const uint8_t *before = pages.before;
-    if (!pages.are_kept)
+    if (pages.of != seat)
         return;
+    pages.of = NULL;
     keep_pages(seat, (struct kalyubos_loan){ NULL, 0 });
     for (size_t i = 0; i < seat->guest->regions_len; i++) {
         const uint8_t *now = region_of(seat, i);
@@ -105,9 +108,9 @@ static void read_device(struct seat *seat, uint8_t window, const struct event *e
 static void write_device(struct seat *seat, uint8_t window, const struct event *event)
 {
     struct kalyubos_pending pending = { 0 };
-    judged(seat, kalyubos_write(seat->board, seat->slot, window, (uint16_t)event->offset, (uint8_t)event->width, event->value,
-                                &pending),
-           device_of(seat, window) != NULL);
+    uint32_t answer = kalyubos_write(seat->board, seat->slot, window, (uint16_t)event->offset, (uint8_t)event->width, event->value,
+                                     &pending);
+    judged(seat, serve_on(seat, answer, &pending), device_of(seat, window) != NULL);
     tell_pending(&seat->told, &pending);
 }
 
@@ -115,8 +118,10 @@ static void supply(struct seat *seat, uint8_t window, const uint8_t *bytes, size
 {
     const struct further_device *device = device_of(seat, window);
     bool starves = is_starved(seat, window), is_good = device != NULL && !device->is_card;
+    struct kalyubos_pending pending = { 0 };
     size_t taken = 0;
-    judged(seat, kalyubos_supply(seat->board, seat->slot, window, bytes, len, &taken), is_good);
+    uint32_t answer = kalyubos_supply(seat->board, seat->slot, window, bytes, len, &taken);
+    judged(seat, serve_on(seat, answer, &pending), is_good);
     need(taken <= len, "more bytes are taken than there are", taken);
     need(taken != 0 || len == 0 || !is_good || !starves, "a starved device takes no byte", len);
     tell_number(&seat->told, taken);
@@ -127,8 +132,10 @@ static void hand_over(struct seat *seat, uint8_t window, const uint8_t *frame, s
 {
     const struct further_device *device = device_of(seat, window);
     bool is_good = device != NULL && device->is_card && len != 0 && len <= (size_t)device->mtu + ETHERNET;
+    struct kalyubos_pending pending = { 0 };
     bool taken = false, starves = is_starved(seat, window);
-    judged(seat, kalyubos_receive(seat->board, seat->slot, window, frame, len, &taken), is_good);
+    uint32_t answer = kalyubos_receive(seat->board, seat->slot, window, frame, len, &taken);
+    judged(seat, serve_on(seat, answer, &pending), is_good);
     need(taken || !is_good || !starves || len > LONGEST, "a starved card takes no frame", len);
     tell_number(&seat->told, taken);
     seat->counts.handed += taken;
@@ -140,6 +147,7 @@ static void take_frame(struct seat *seat, uint8_t window, size_t room)
     static _Thread_local uint8_t frame[LONGEST];
     const struct further_device *device = device_of(seat, window);
     struct kalyubos_device_pending waits = { 0 };
+    struct kalyubos_pending pending = { 0 };
     size_t len = 0;
     kalyubos_device_pending(seat->board, seat->slot, window, &waits);
     uint32_t answer = kalyubos_take_frame(seat->board, seat->slot, window, frame, room, &len);
@@ -150,7 +158,7 @@ static void take_frame(struct seat *seat, uint8_t window, size_t room)
         seat->counts.short_buffers++;
         return;
     }
-    judged(seat, answer, device != NULL && device->is_card);
+    judged(seat, serve_on(seat, answer, &pending), device != NULL && device->is_card);
     tell_number(&seat->told, len);
     tell(&seat->told, frame, len);
     seat->counts.sent += len != 0;

@@ -12,7 +12,7 @@ ROOM, OUTPUT_BUFFERS = 65536, 0x6000
 
 
 class FurtherConsole(FurtherDriver):
-    """Gets what its host types, and puts out what its host takes."""
+    """Gets what its host types, and puts out what its host takes or drops."""
 
     RECEIVE, TRANSMIT = 0, 1
 
@@ -65,10 +65,9 @@ class FurtherConsole(FurtherDriver):
         self.publish(self.TRANSMIT)
 
     def take(self):
-        """The host takes all output that waits."""
+        """The host takes or drops all output that waits."""
         taken, self.output = self.output, b""
-        self.say("take", "", f"b:{taken.hex() or '-'}")
-        self.guest.mean("take", self.window)
+        self.take_out(taken)
         if taken:
             self.serve(self.TRANSMIT)
         self.look(self.TRANSMIT)

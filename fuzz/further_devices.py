@@ -20,7 +20,7 @@ MTUS = 3 * [68, 576, 1500, 1500] + [9000, 65535]
 SUPPLIES = [0, 1, 7, 64, 300, 1000, 4095, 4096, 5000]
 BURSTS = 6 * [1] + [2, 2, 3, 3, 5, 70]
 # What no device takes that isn't there.
-TO_NONE = ["dr {} 000 4", "dw {} 070 4 00000000", "supply {} 00", "frame {} 00", "take {}", "link {} down",
+TO_NONE = ["dr {} 000 4", "dw {} 070 4 00000000", "supply {} 00", "frame {} 00", "take {}", "dsent {}", "link {} down",
            "dsz {} 50 19", "dio {} 0 done", "ddrop {}", "dhold {}", "drelease {}"]
 # And no device takes that is no disk, and none that is no console.
 OF_DISKS = ["dio {} 0 failed", "ddrop {}", "dhold {}", "drelease {}"]
@@ -112,6 +112,12 @@ class FurtherDriver(Driver):
         word, fields = dice.choice(lines).split(" ", 1)
         guest.do(word, fields, "baddevice")
 
+    def take_out(self, sent):
+        """The host takes what was sent, or drops it."""
+        is_dropped = self.guest.dice.random() < 0.2
+        self.say(*("dsent", "", f"took:{len(sent):x}") if is_dropped else ("take", "", f"b:{sent.hex() or '-'}"))
+        self.guest.mean("drop" if is_dropped else "take", self.window)
+
     def may_offer(self, which):
         """Whether there are descriptors for a chain; those of used chains, and all buffers, are free where no chain waits."""
         queue, waiting = self.queues[which], self.waiting[which]
@@ -184,7 +190,7 @@ class EntropyDriver(FurtherDriver):
         return [self.supply, self.supply, self.ask, self.ask, self.ask, self.odd]
 
     def refused(self):
-        return ["frame {} 00", "take {}", "link {} up", *OF_DISKS, *OF_CONSOLES]
+        return ["frame {} 00", "take {}", "dsent {}", "link {} up", *OF_DISKS, *OF_CONSOLES]
 
     def supply(self):
         guest = self.guest
@@ -214,7 +220,7 @@ class EntropyDriver(FurtherDriver):
 
 
 class CardDriver(FurtherDriver):
-    """Sends frames, which its host takes, and receives those that it hands over."""
+    """Sends frames, which its host takes or drops, and receives those that it hands over."""
 
     RECEIVE, TRANSMIT = 0, 1
 
@@ -285,8 +291,7 @@ class CardDriver(FurtherDriver):
 
     def take_one(self):
         frame = self.sent.pop(0) if self.sent else b""
-        self.say("take", "", f"b:{frame.hex() or '-'}")
-        self.guest.mean("take", self.window)
+        self.take_out(frame)
         if frame:
             self.serve(self.TRANSMIT)
 

@@ -67,7 +67,7 @@ class DiskDriver(FurtherDriver):
         return [self.request] * 8 + [self.complete_some] * 4 + ends + [self.idle, self.wait, self.drop, self.odd]
 
     def refused(self):
-        return ["supply {} 00", "frame {} 00", "take {}", "link {} up", *OF_CONSOLES]
+        return ["supply {} 00", "frame {} 00", "take {}", "dsent {}", "link {} up", *OF_CONSOLES]
 
     def step(self):
         for _ in range(self.guest.dice.choice([1, 2, 4])):

@@ -48,7 +48,7 @@ OK, IOERR, UNSUPPORTED = 0, 1, 2
 IDENTITY_TEXT = b"vreplay-block".ljust(20, b"\0")
 PENDING_LIMIT = 4096
 # The events of further devices.
-FURTHER_WORDS = ["plug", "dr", "dw", "supply", "frame", "take", "link", "dsz", "dio", "ddrop", "dhold", "drelease"]
+FURTHER_WORDS = ["plug", "dr", "dw", "supply", "frame", "take", "dsent", "link", "dsz", "dio", "ddrop", "dhold", "drelease"]
 
 # What a hostile guest picks from.
 ODD_COUNTS = [1, 2, 3, 15, 16, 17, 31, 32, 33, 127, 128, 129, 255, 256, 257]
@@ -538,6 +538,7 @@ class Mischief:
         dice, number = self.dice, self.dice.choice([0, 1, 2, 5, 6, 255])
         word, fields = dice.choice([
             ("supply", dice.randbytes(dice.choice([0, 1, 100, 5000])).hex() or "-"), ("link", dice.choice(["up", "down"])), ("take", ""),
+            ("dsent", ""),
             ("frame", dice.randbytes(dice.choice([0, 1, 14, 60, 82, 83, 1514, 1515])).hex() or "-"), ("ddrop", ""), ("dhold", ""),
             ("dsz", f"{dice.randrange(1 << 16):x} {dice.randrange(1 << 16):x}"),
             *4 * [("dio", f"{dice.choice([0, 0, 0, 1, 2, 63, 255]):x} {dice.choice(['done', 'failed'])}")], ("drelease", "")])

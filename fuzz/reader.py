@@ -28,6 +28,7 @@ LINES = {
     "supply": [8, 8, "bytes"],
     "frame": [8, 8, "bytes"],
     "take": [8, 8],
+    "dsent": [8, 8],
     "link": [8, 8, "link"],
     "dsz": [8, 8, 16, 16],
     "dio": [8, 8, 8, "verdict"],
@@ -48,8 +49,8 @@ OF_DISK = [64, "mode", "identity", 8]
 
 # What stands behind them in all but version 1, and the words that an extended trace has alone.
 ADDED = {"slot": ["identity"]}
-EXTENDED_WORDS = ["st", "io", "drop", "hold", "release", "plug", "dr", "dw", "supply", "frame", "take", "link", "dsz", "dio", "ddrop", "dhold",
-                  "drelease"]
+EXTENDED_WORDS = ["st", "io", "drop", "hold", "release", "plug", "dr", "dw", "supply", "frame", "take", "dsent", "link", "dsz", "dio",
+                  "ddrop", "dhold", "drelease"]
 
 CHOICES = {"win": ["b", "c"], "wid": ["1", "2", "4"], "mode": ["rw", "ro"], "verdict": ["done", "failed"], "link": ["up", "down"]}
 

@@ -28,7 +28,7 @@ HOSTED, BOTH, LATE = 1 / 3, 1 / 2, 0.7
 FURTHER = 1 / 2
 # How many events more a guest does for each of them.
 FURTHER_EVENTS = 300
-STRANGE = ["plug {} 0 entropy", "dr {} 0 000 4", "dw {} 0 070 4 00000000", "supply {} 0 ff", "frame {} 0 ff", "take {} 0", "link {} 0 up",
+STRANGE = ["plug {} 0 entropy", "dr {} 0 000 4", "dw {} 0 070 4 00000000", "supply {} 0 ff", "frame {} 0 ff", "take {} 0", "dsent {} 0", "link {} 0 up",
            "dsz {} 0 50 19", "dio {} 0 0 done", "ddrop {} 0", "dhold {} 0", "drelease {} 0"]
 
 # How many operations of a hosted disk may be in flight.

@@ -35,6 +35,10 @@ struct seat {
     struct counts counts;
 };
 
+/* Goes on with a service that was answered so until it ends, and answers what that is answered. Before each piece another guest is
+ * served. `pending` is what then waits. */
+uint32_t serve_on(struct seat *seat, uint32_t answer, struct kalyubos_pending *pending);
+
 /* A number below `below`: the same ones from the same state. */
 uint64_t chance(struct seat *seat, uint64_t below);
 

@@ -112,8 +112,7 @@ static void check_busy(struct seat *seat)
     check_devices_busy(seat);
 }
 
-/* Goes on with a service until it ends, and lets an event of another guest be served before each piece. */
-static uint32_t serve_on(struct seat *seat, uint32_t answer, struct kalyubos_pending *pending)
+uint32_t serve_on(struct seat *seat, uint32_t answer, struct kalyubos_pending *pending)
 {
     while (answer == KALYUBOS_MORE) {
         seat->counts.pauses++;

@@ -10,7 +10,7 @@
 #include "kalyubos.h"
 
 enum { MEMORY_LEN = 0x10000, SECTORS = 2, MTU = 68, POOL = 4096, FRAMES = 64, ROOM = 65536, UNTOLD = 0x77 };
-enum { QUEUE_READY = 0x044, NOTIFY = 0x050, STATUS = 0x070, DEVICE_ID = 0x008, NEXT = 1, WRITE = 2 };
+enum { QUEUE_READY = 0x044, NOTIFY = 0x050, ACK = 0x064, STATUS = 0x070, DEVICE_ID = 0x008, NEXT = 1, WRITE = 2 };
 /* the windows of guest 0's devices, and of one that it doesn't have */
 enum { ENTROPY = KALYUBOS_DEVICE, CARD, LARGE_CARD, DISK, CONSOLE, NO_WINDOW };
 static const uint64_t MEMORY = 0x80000000;
@@ -49,7 +49,7 @@ static uint32_t supply(uint8_t slot, uint8_t window, size_t len, size_t *taken)
     static const uint8_t bytes[POOL];
     *taken = UNTOLD;
     uint32_t answer = kalyubos_supply(&board, slot, window, bytes, len, taken);
-    need(answer == KALYUBOS_DONE || *taken == UNTOLD, "a refused supply tells a count", answer);
+    need(answer == KALYUBOS_DONE || answer == KALYUBOS_MORE || *taken == UNTOLD, "a refused supply tells a count", answer);
     return answer;
 }
 
@@ -67,8 +67,9 @@ static uint32_t take(uint8_t slot, uint8_t window, uint8_t *into, size_t room, s
     *len = UNTOLD;
     memset(into, UNTOLD, room);
     uint32_t answer = kalyubos_take_frame(&board, slot, window, into, room, len);
-    need(answer == KALYUBOS_DONE || answer == KALYUBOS_SHORT_BUFFER || *len == UNTOLD, "a refused take tells a length", answer);
-    for (size_t i = answer == KALYUBOS_DONE ? *len : 0; i < room; i++)
+    bool is_taken = answer == KALYUBOS_DONE || answer == KALYUBOS_MORE;
+    need(is_taken || answer == KALYUBOS_SHORT_BUFFER || *len == UNTOLD, "a refused take tells a length", answer);
+    for (size_t i = is_taken ? *len : 0; i < room; i++)
         need(into[i] == UNTOLD, "a byte behind the frame", i);
     return answer;
 }
@@ -278,6 +279,75 @@ static uint16_t used(void)
     return idx;
 }
 
+/* What a call answers whose service would serve a second chain: MORE with a budget of one, and DONE without. */
+static uint32_t more;
+
+/* Such a service had `first` chains used before, and goes on in so many calls until `last` are. Meanwhile each call for the slot is
+ * busy, but those that only tell, and the driver is told of nothing. */
+static void go_on(uint8_t window, uint16_t first, uint16_t last, uint16_t calls)
+{
+    struct kalyubos_pending pending;
+    struct kalyubos_device_pending waits;
+    uint32_t value;
+    for (uint16_t call = 1; more == KALYUBOS_MORE && call <= calls; call++) {
+        need(used() == (first + call < last ? first + call : last), "the chains of a piece", used());
+        need(wait(0, window, &waits) == KALYUBOS_DONE && waits.interrupt == 0, "what waits in a pause", waits.interrupt);
+        need(load(0, window, &value) == KALYUBOS_BUSY && store(0, window, NOTIFY, 0) == KALYUBOS_BUSY, "a register in a pause", window);
+        need(load(0, KALYUBOS_BLOCK, &value) == KALYUBOS_BUSY, "the disk's register in a pause", 0);
+        for (uint8_t other = ENTROPY; other < NO_WINDOW; other++)
+            all_answer(0, other, KALYUBOS_BUSY, KALYUBOS_DONE);
+        need(load(1, KALYUBOS_BLOCK, &value) == KALYUBOS_DONE, "another guest in a pause", 0);
+        need(kalyubos_go_on(&board, 0, &pending) == (call < calls ? KALYUBOS_MORE : KALYUBOS_DONE), "go_on", call);
+    }
+    need(used() == last && wait(0, window, &waits) == KALYUBOS_DONE && waits.interrupt == 1, "what waits at the end", used());
+}
+
+/* So many chains are on offer in all, of which the driver doesn't notify; it has seen those before. */
+static void offer_silently(uint8_t window, uint16_t heads)
+{
+    memcpy(memory + AVAILABLE + 2, &heads, sizeof heads);
+    need(store(0, window, ACK, 1) == KALYUBOS_DONE, "an InterruptACK", window);
+}
+
+/* A full pool fills a chain of its length. Twelve bytes reach three chains of four, and all are taken at once. */
+static void check_entropy(void)
+{
+    const struct descriptor all = { MEMORY + DATA, POOL, WRITE, 0 }, four = { MEMORY + DATA, 4, WRITE, 0 };
+    struct kalyubos_device_pending waits;
+    size_t taken;
+    need(offer(ENTROPY, 0, &all, sizeof all, 1) == KALYUBOS_DONE && used() == 1, "a chain for all", used());
+    need(offer(ENTROPY, 0, &four, sizeof four, 3) == KALYUBOS_DONE && used() == 0, "chains for which there is no byte", used());
+    need(wait(0, ENTROPY, &waits) == KALYUBOS_DONE && waits.starved, "its driver waits", 0);
+    need(supply(0, ENTROPY, 12, &taken) == more && taken == 12, "bytes for three chains", taken);
+    go_on(ENTROPY, 0, 3, 2);
+}
+
+/* Frames that wait reach the driver's chains, and so does one that is handed in behind them. */
+static void check_received(void)
+{
+    const struct descriptor chain = { MEMORY + DATA, HEADER + MTU + 14, WRITE, 0 };
+    bool taken;
+    need(offer(CARD, 0, &chain, sizeof chain, 4) == more, "chains for frames", used());
+    go_on(CARD, 0, 4, 3);
+    offer_silently(CARD, 6);
+    need(receive(0, CARD, 1, &taken) == more && taken, "a frame behind others", taken);
+    go_on(CARD, 4, 6, 1);
+}
+
+/* Two frames of one notification. */
+static void check_sent(void)
+{
+    enum { LEN = 64 };
+    const struct descriptor chain = { MEMORY + DATA, HEADER + LEN, 0, 0 };
+    uint8_t into[ROOM];
+    size_t len;
+    need(offer(CARD, 1, &chain, sizeof chain, 2) == more, "two frames", used());
+    go_on(CARD, 0, 2, 1);
+    for (int i = 0; i < 2; i++)
+        need(take(0, CARD, into, sizeof into, &len) == KALYUBOS_DONE && len == LEN, "a frame of two", len);
+    need(take(0, CARD, into, sizeof into, &len) == KALYUBOS_DONE && len == 0, "a third one", len);
+}
+
 /* A frame stays until it finds room, and its length is told. */
 static void check_short_buffer(void)
 {
@@ -306,7 +376,8 @@ static void check_full_card(void)
     const struct descriptor chain = { MEMORY + DATA, HEADER + ROOM / 2, 0, 0 };
     uint8_t into[ROOM];
     size_t len;
-    need(offer(LARGE_CARD, 1, &chain, sizeof chain, 3) == KALYUBOS_DONE && used() == 2, "two frames are sent", used());
+    need(offer(LARGE_CARD, 1, &chain, sizeof chain, 3) == more, "two frames are sent", used());
+    go_on(LARGE_CARD, 0, 2, 2);
     for (uint16_t left = 3; left > 0; left--) {
         need(take(0, LARGE_CARD, into, sizeof into, &len) == KALYUBOS_DONE && len == ROOM / 2, "a frame", left);
         need(used() == 3, "the third one is sent", used());
@@ -326,7 +397,20 @@ static void check_console(void)
     need(supply(0, CONSOLE, 2, &count) == KALYUBOS_DONE && count == 1, "input for which there is no room", count);
 }
 
-/* Its output leaves whole. A byte of an emergency write (5.3.4) that finds no room is lost, and a chain waits. */
+/* Its input reaches the driver's chains, and so does what is typed behind it. */
+static void check_typed(void)
+{
+    const struct descriptor chain = { MEMORY + DATA, 4, WRITE, 0 };
+    size_t count;
+    need(offer(CONSOLE, 0, &chain, sizeof chain, 3) == more, "chains for input", used());
+    go_on(CONSOLE, 0, 3, 2);
+    offer_silently(CONSOLE, 5);
+    need(supply(0, CONSOLE, POOL, &count) == more && count == 12, "input behind other", count);
+    go_on(CONSOLE, 3, 5, 1);
+}
+
+/* Its output leaves whole. A byte of an emergency write (5.3.4) that finds no room is lost, and chains wait. What a take makes room for
+ * is served within the budget, and the bytes are the host's already. */
 static void check_output(void)
 {
     enum { EMERGENCY = 0x108 };
@@ -342,9 +426,13 @@ static void check_output(void)
         need(store(0, CONSOLE, EMERGENCY, i) == KALYUBOS_DONE, "an emergency write", i);
     need(wait(0, CONSOLE, &pending) == KALYUBOS_DONE && pending.frame == ROOM, "what waits", pending.frame);
     need(take(0, CONSOLE, into, sizeof into, &count) == KALYUBOS_DONE && count == ROOM && into[ROOM - 1] == 0xff, "all output", count);
-    need(offer(CONSOLE, 1, &chain, sizeof chain, 3) == KALYUBOS_DONE && used() == 2, "two chains are sent", used());
-    need(take(0, CONSOLE, into, sizeof into, &count) == KALYUBOS_DONE && count == ROOM && used() == 3, "both", count);
-    need(take(0, CONSOLE, into, sizeof into, &count) == KALYUBOS_DONE && count == ROOM / 2, "the third one", count);
+    need(offer(CONSOLE, 1, &chain, sizeof chain, 4) == more, "two chains are sent", used());
+    go_on(CONSOLE, 0, 2, 2);
+    offer_silently(CONSOLE, 4);
+    need(take(0, CONSOLE, into, sizeof into, &count) == more && count == ROOM, "two chains", count);
+    go_on(CONSOLE, 2, 4, 1);
+    need(take(0, CONSOLE, into, sizeof into, &count) == KALYUBOS_DONE && count == ROOM && used() == 4, "the other two", count);
+    need(take(0, CONSOLE, into, sizeof into, &count) == KALYUBOS_DONE && count == 0, "output behind the last", count);
 }
 
 /* ---- a disk at work */
@@ -413,6 +501,33 @@ static void check_pause(void)
     need(say(kalyubos_drop, 0, DISK) == KALYUBOS_DONE && say(kalyubos_drop, 0, DISK) == KALYUBOS_IDLE, "two drops", 0);
 }
 
+/* A board whose calls serve so many chains; 0 is no limit. */
+static void check_board(struct kalyubos_config *config, uint32_t chains)
+{
+    size_t len;
+    config->chains = chains;
+    more = chains == 0 ? KALYUBOS_DONE : KALYUBOS_MORE;
+    need(kalyubos_create(&board, config) == KALYUBOS_DONE, "create", chains);
+    need(kalyubos_memory(&board, 0, MEMORY, &memory, &len) == KALYUBOS_DONE, "memory", len);
+    check_windows();
+    check_disk_windows();
+    check_kinds();
+    check_pool();
+    check_frames();
+    check_entropy();
+    check_received();
+    check_sent();
+    check_short_buffer();
+    check_full_card();
+    check_console();
+    check_typed();
+    check_output();
+    check_disk_at_work();
+    if (chains != 0)
+        check_pause();
+    need(kalyubos_destroy(&board) == KALYUBOS_DONE, "destroy", chains);
+}
+
 int main(void)
 {
     static const uint8_t image[SECTORS * 512];
@@ -424,25 +539,11 @@ int main(void)
         { .size = sizeof *slots, .regions = { { MEMORY, MEMORY_LEN } }, .outlet = 64 },
     };
     struct kalyubos_config config = kalyubos_config(slots, 2);
-    size_t len;
     check_no_board();
     config.image = image;
     config.image_len = sizeof image;
-    config.chains = 1;
-    need(kalyubos_create(&board, &config) == KALYUBOS_DONE, "create", 0);
-    need(kalyubos_memory(&board, 0, MEMORY, &memory, &len) == KALYUBOS_DONE, "memory", len);
-    check_windows();
-    check_disk_windows();
-    check_kinds();
-    check_pool();
-    check_frames();
-    check_short_buffer();
-    check_full_card();
-    check_console();
-    check_output();
-    check_disk_at_work();
-    check_pause();
-    need(kalyubos_destroy(&board) == KALYUBOS_DONE, "destroy", 0);
-    puts("further: 256 windows of a guest with five further devices and one with none; what finds room; a disk at work; a pause");
+    check_board(&config, 1);
+    check_board(&config, 0);
+    puts("further: 256 windows of a guest with five further devices and one with none; what finds room; a disk at work; pauses");
     return 0;
 }

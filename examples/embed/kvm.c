@@ -214,6 +214,17 @@ static void end_calls(struct guest *guest)
     cpus_go(&guest->cpus);
 }
 
+/* What a call is answered at the end of its service. One that pauses leaves the lock to the other guests before it goes on. */
+static uint32_t ended(struct guest *guest, uint32_t answer)
+{
+    while (answer == KALYUBOS_MORE) {
+        pthread_mutex_unlock(&lock);
+        pthread_mutex_lock(&lock);
+        answer = kalyubos_go_on(&board, guest->slot, &guest->lines);
+    }
+    return answer;
+}
+
 /* ---- a disk that the host serves */
 
 static void open_disk(struct guest *guest)
@@ -278,14 +289,16 @@ static void forward(const struct guest *from, const uint8_t *bytes, size_t len)
     }
 }
 
-/* Takes all frames that the guest's card has sent. A driver may send longer ones than the MTU allows. */
-static void take_frames(const struct guest *guest)
+/* Takes all frames that the guest's card has sent. A driver may send longer ones than the MTU allows. Each is passed on before a
+ * service that pauses leaves the lock, and with it these bytes, to others. */
+static void take_frames(struct guest *guest)
 {
     static uint8_t frame[ANY_FRAME];
-    size_t len;
+    size_t len = 0;
     do {
-        must_do(kalyubos_take_frame(&board, guest->slot, CARD, frame, sizeof frame, &len), "take_frame");
+        uint32_t answer = kalyubos_take_frame(&board, guest->slot, CARD, frame, sizeof frame, &len);
         forward(guest, frame, len);
+        must_do(ended(guest, answer), "take_frame");
     } while (len > 0);
 }
 
@@ -298,7 +311,7 @@ static void hand_in_frames(struct guest *guest)
     (void)eventfd_read(port->ready, &count); /* there may be none */
     while (port->waiting > 0 && taken) {
         const struct frame *frame = &port->frames[port->first];
-        must_do(kalyubos_receive(&board, guest->slot, CARD, frame->bytes, frame->len, &taken), "receive");
+        must_do(ended(guest, kalyubos_receive(&board, guest->slot, CARD, frame->bytes, frame->len, &taken)), "receive");
         port->first = (port->first + taken) % PORT_ROOM;
         port->waiting -= taken;
     }
@@ -356,14 +369,6 @@ static void *kick(void *user)
 
 /* ---- what a guest's exits come to */
 
-/* A service that pauses leaves the lock to the other guests before it goes on. Its own guest's CPUs stand. */
-static uint32_t go_on(struct guest *guest)
-{
-    pthread_mutex_unlock(&lock);
-    pthread_mutex_lock(&lock);
-    return kalyubos_go_on(&board, guest->slot, &guest->lines);
-}
-
 /* The guest's terminal takes what its console put out, and tells whether there was any. */
 static bool show(const struct guest *guest)
 {
@@ -394,9 +399,7 @@ static void store(struct guest *guest, uint8_t window, uint16_t offset, uint8_t 
 {
     uint32_t answer;
     do {
-        answer = kalyubos_write(&board, guest->slot, window, offset, width, value, &guest->lines);
-        while (answer == KALYUBOS_MORE)
-            answer = go_on(guest);
+        answer = ended(guest, kalyubos_write(&board, guest->slot, window, offset, width, value, &guest->lines));
     } while (makes_way(guest, answer));
     if (answer == KALYUBOS_IO) {
         if (!file_disk_begin(&guest->disk))

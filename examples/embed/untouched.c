@@ -369,20 +369,20 @@ static void copy_in(void)
 static void supply(void)
 {
     size_t taken;
-    kalyubos_supply(&board, 0, ENTROPY, (const uint8_t *)"random", 6, &taken);
+    (void)!kalyubos_supply(&board, 0, ENTROPY, (const uint8_t *)"random", 6, &taken);
 }
 
 static void receive(void)
 {
     bool taken;
-    kalyubos_receive(&board, 0, CARD, (const uint8_t *)"a frame", 7, &taken);
+    (void)!kalyubos_receive(&board, 0, CARD, (const uint8_t *)"a frame", 7, &taken);
 }
 
 static void take_frame(void)
 {
     uint8_t frame[512];
     size_t len;
-    kalyubos_take_frame(&board, 0, CARD, frame, sizeof frame, &len);
+    (void)!kalyubos_take_frame(&board, 0, CARD, frame, sizeof frame, &len);
 }
 
 static void ask_card(void)

@@ -434,6 +434,15 @@ static struct kalyubos_device_pending wait_of(uint8_t slot, uint8_t window)
     return pending;
 }
 
+/* Brings to its end what comes of something that a device was handed, or that was taken from it. */
+static void bring_to_end(uint8_t slot, uint32_t answer, const char *what)
+{
+    while (answer == KALYUBOS_MORE)
+        answer = kalyubos_go_on(&board, slot, &waits[slot]);
+    must(answer, what);
+    after(slot);
+}
+
 bool board_starved(uint8_t slot)
 {
     return wait_of(slot, BOARD_ENTROPY).starved;
@@ -443,8 +452,7 @@ size_t board_supply(uint8_t slot, const uint8_t *bytes, size_t len)
 {
     size_t taken;
     before(slot);
-    must(kalyubos_supply(&board, slot, BOARD_ENTROPY, bytes, len, &taken), "supply");
-    after(slot);
+    bring_to_end(slot, kalyubos_supply(&board, slot, BOARD_ENTROPY, bytes, len, &taken), "supply");
     return taken;
 }
 
@@ -452,8 +460,7 @@ bool board_receive(uint8_t slot, const uint8_t *frame, size_t len)
 {
     bool taken;
     before(slot);
-    must(kalyubos_receive(&board, slot, BOARD_CARD, frame, len, &taken), "receive");
-    after(slot);
+    bring_to_end(slot, kalyubos_receive(&board, slot, BOARD_CARD, frame, len, &taken), "receive");
     return taken;
 }
 
@@ -461,8 +468,7 @@ size_t board_take_frame(uint8_t slot, uint8_t into[BOARD_ANY_FRAME])
 {
     size_t len;
     before(slot);
-    must(kalyubos_take_frame(&board, slot, BOARD_CARD, into, BOARD_ANY_FRAME, &len), "take_frame");
-    after(slot);
+    bring_to_end(slot, kalyubos_take_frame(&board, slot, BOARD_CARD, into, BOARD_ANY_FRAME, &len), "take_frame");
     return len;
 }
 

@@ -219,6 +219,13 @@ static void settle(struct machine *machine, uint32_t answer)
         move_lines(machine);
 }
 
+/* What the host does behind a store to a further device's window, once nothing is paused. */
+static void serve_behind(struct machine *machine)
+{
+    machine->unserved = board_is_paused(machine->slot);
+    machine_serve(machine);
+}
+
 static void window_store(struct machine *machine, unsigned window, uint16_t offset, unsigned width, uint32_t value)
 {
     machine->counts[window].writes++;
@@ -227,7 +234,7 @@ static void window_store(struct machine *machine, unsigned window, uint16_t offs
     machine->store = (struct machine_store){ window, offset, width, value };
     settle(machine, store(machine));
     if (window >= KALYUBOS_DEVICE)
-        machine_serve(machine);
+        serve_behind(machine);
 }
 
 void machine_serve(struct machine *machine)
@@ -240,10 +247,13 @@ void machine_serve(struct machine *machine)
 
 void machine_go_on(struct machine *machine)
 {
-    if (board_is_paused(machine->slot))
+    if (board_is_paused(machine->slot)) {
         settle(machine, board_go_on(machine->slot));
-    else if (is_due(machine))
+        if (machine->unserved)
+            serve_behind(machine);
+    } else if (is_due(machine)) {
         land(machine);
+    }
 }
 
 /* ---- the bus */

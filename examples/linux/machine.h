@@ -34,6 +34,7 @@ struct machine {
     bool off;
     bool paused;          /* the service of its last store, or of what was typed, goes on in its next turn; or it waits */
     bool busy;            /* for a disk, and its last store is to be made again then */
+    bool unserved;        /* what goes on is of a store to a further device's window, which its host then serves */
     bool late;            /* output is taken where there is no room for more, and while the guest waits */
     uint64_t timer;       /* the cycle of the timer's interrupt, or all ones */
     uint64_t latency;     /* how many cycles a disk takes that the host serves; all ones: it is done when its file is */

@@ -123,7 +123,7 @@ def version():
 EVERY_LINE = "each line ends with a line feed, and the first two are there"
 FIRST_LINE = 'the first line is "vreplay 1", "vreplay 2" or "kalyubos 1"'
 WORDS = "a line begins with slot, r, w, mr, mw, in or sz"
-WORDS_EXTENDED = "a line begins with slot, r, w, mr, mw, in, sz, st, io, drop, hold, release, plug, dr, dw, supply, frame, take, link, dsz, dio, ddrop, dhold or drelease"
+WORDS_EXTENDED = "a line begins with slot, r, w, mr, mw, in, sz, st, io, drop, hold, release, plug, dr, dw, supply, frame, take, dsent, link, dsz, dio, ddrop, dhold or drelease"
 NUMBER = "is lower case hexadecimal digits without zeros in front, of {} bits at most, as 1f"
 BYTES = "bytes are two lower case hexadecimal digits each, as 4142, or - for none"
 IDENTITY = "an identity is 20 bytes by two lower case hexadecimal digits each, so 40 digits"
@@ -203,6 +203,7 @@ TEXTS = [
     (f"kalyubos 1\ncache 1\nplug 0 0 disk 8 wr {NAMED} 1\n".encode(), 'line 3: a disk is rw or ro; found "wr"'),
     (b"kalyubos 1\ncache 1\nplug 0 0 console:50\n",
      'line 3: a further device is entropy, network:525400123456:5dc by its address and its MTU, console:50:19 by its columns and rows, or disk; found "console:50"'),
+    (b"kalyubos 1\ncache 1\ndsent 0\n", 'line 3: dsent has 2 fields after it, each after one space, as "dsent 0 0"; found "dsent 0"'),
     (b"kalyubos 1\ncache 1\ndsz 0 0 50\n", 'line 3: dsz has 4 fields after it, each after one space, as "dsz 0 0 50 19"; found "dsz 0 0 50"'),
     (b"kalyubos 1\ncache 1\ndsz 0 0 10000 19\n", f'line 3: a number of columns {NUMBER.format(16)}; found "10000"'),
     (b"kalyubos 1\ncache 1\ndio 0 0 done\n", 'line 3: dio has 4 fields after it, each after one space, as "dio 0 0 0 done"; found "dio 0 0 done"'),

@@ -13,7 +13,7 @@ use std::slice;
 const NO_ROOM: u32 = 15;
 
 /// The number of a service that pauses.
-const MORE: u32 = 18;
+pub(crate) const MORE: u32 = 18;
 
 /// The number of a call that is done, after which a disk waits for the host.
 const IO: u32 = 20;
@@ -261,7 +261,7 @@ impl Board {
     /// waits for all that is in flight of that disk, which the host serves. The guest's CPU waits with it; make the same write
     /// again once all is completed or [dropped](Board::drop_operations).
     ///
-    /// Of a further device [`device_pending`](Board::device_pending) tells what then waits, and all that the guest notified is served.
+    /// Of a further device [`device_pending`](Board::device_pending) tells what then waits.
     ///
     /// ```
     /// # use kalyubos::{Board, Config, Error, Slot, Window};
@@ -303,7 +303,7 @@ impl Board {
 
     /// Goes on with a slot's service that pauses, and tells what then waits. Until it is done every other call for the
     /// slot is [`Error::Busy`], but those that tell its interrupts, counters or operations or take its output, and none
-    /// of its CPUs runs.
+    /// of its CPUs runs. Of a further device [`device_pending`](Board::device_pending) tells what waits at the end.
     pub fn go_on(&mut self, slot: u8) -> Result<Pending, Error> {
         let mut told = ffi::Pending::default();
         let number = unsafe { ffi::kalyubos_go_on(&mut self.handle, slot, &mut told) };

@@ -1,6 +1,6 @@
 //! A slot's further devices: entropy devices, network cards, disks and consoles.
 
-use crate::board::{Board, Window};
+use crate::board::{Board, Window, MORE};
 use crate::error::Error;
 use crate::ffi;
 use crate::identity::Identity;
@@ -90,6 +90,27 @@ pub struct DevicePending {
     pub tags: Tags,
 }
 
+/// What became of bytes or of a frame that a device was handed, or its host.
+#[derive(Clone, Copy, Debug, Default, PartialEq, Eq, Hash)]
+#[must_use = "nothing else tells how much was taken, and that the slot's service pauses"]
+pub struct Handed<T> {
+    /// How many bytes the device took, the first ones; or whether it took the frame, whole; or how many bytes the host took, if any.
+    pub taken: T,
+    /// Whether the slot's service pauses that brings them to the driver, or takes more from it: [`Board::go_on`] goes on with it.
+    pub more: bool,
+}
+
+impl<T> Handed<T> {
+    // What a call that answered this number told. A service that pauses is no error.
+    fn told(number: u32, taken: T) -> Result<Handed<T>, Error> {
+        let more = number == MORE;
+        if !more {
+            Error::check(number)?;
+        }
+        Ok(Handed { taken, more })
+    }
+}
+
 // In C a device is named by its window.
 fn window_of(device: u8) -> u8 {
     Window::Device(device).number()
@@ -98,8 +119,8 @@ fn window_of(device: u8) -> u8 {
 /// The calls of a slot's further devices, which are named by their numbers, from 0 on. [`Error::BadDevice`]: the slot has no
 /// such device, or it takes no such thing.
 impl Board {
-    /// What waits for a further device. Move its window's line by it after each [`write`](Board::write) to the window, and after
-    /// each other call for it. It may be asked in a pause.
+    /// What waits for a further device. Move its window's line by it after each [`write`](Board::write) to the window, after
+    /// each other call for it, and where one of these pauses after the last [`go_on`](Board::go_on). It may be asked in a pause.
     pub fn device_pending(&self, slot: u8, device: u8) -> Result<DevicePending, Error> {
         let mut told = ffi::DevicePending::default();
         Error::check(unsafe {
@@ -120,13 +141,13 @@ impl Board {
     /// # use kalyubos::{Board, Config, Device, Error, Slot};
     /// let slots = [Slot::hosted(0, 0x1000, 1).with_device(Device::Entropy)];
     /// let mut board = Board::create(&Config::new(&slots))?;
-    /// assert_eq!(board.supply(0, 0, &[7; 5000])?, 4096);
+    /// assert_eq!(board.supply(0, 0, &[7; 5000])?.taken, 4096);
     /// assert_eq!(board.supply(0, 1, &[7; 5000]), Err(Error::BadDevice));
     /// # Ok::<(), Box<dyn std::error::Error>>(())
     /// ```
-    pub fn supply(&mut self, slot: u8, device: u8, bytes: &[u8]) -> Result<usize, Error> {
+    pub fn supply(&mut self, slot: u8, device: u8, bytes: &[u8]) -> Result<Handed<usize>, Error> {
         let mut taken = 0;
-        Error::check(unsafe {
+        let number = unsafe {
             ffi::kalyubos_supply(
                 self.handle_mut(),
                 slot,
@@ -135,17 +156,17 @@ impl Board {
                 bytes.len(),
                 &mut taken,
             )
-        })?;
-        Ok(taken)
+        };
+        Handed::told(number, taken)
     }
 
     /// Hands a network card a frame, which begins with the addresses of Ethernet and has no check sequence. Tells whether
     /// the card took it, whole: where there is no room it takes nothing, until its driver has taken others. It keeps 64
     /// frames, of 65536 bytes together. [`Error::BadDevice`] also of a frame without bytes, or of more than the card's MTU
     /// and 14.
-    pub fn receive(&mut self, slot: u8, device: u8, frame: &[u8]) -> Result<bool, Error> {
+    pub fn receive(&mut self, slot: u8, device: u8, frame: &[u8]) -> Result<Handed<bool>, Error> {
         let mut taken = false;
-        Error::check(unsafe {
+        let number = unsafe {
             ffi::kalyubos_receive(
                 self.handle_mut(),
                 slot,
@@ -154,8 +175,8 @@ impl Board {
                 frame.len(),
                 &mut taken,
             )
-        })?;
-        Ok(taken)
+        };
+        Handed::told(number, taken)
     }
 
     /// Moves out the oldest frame that a network card's driver sent, whole, to the front of a buffer, and tells how many bytes
@@ -163,7 +184,7 @@ impl Board {
     /// tells its length. None has more than 65536 bytes, or more than the MTU and 14 where the driver keeps to the MTU.
     ///
     /// Take frames after each [`write`](Board::write) to the window, until there is none: the card keeps as many as the other
-    /// way, and the driver's next frame waits for such a call.
+    /// way, and the driver's next frame waits for such a call, which serves it: where that pauses the frame was moved out already.
     ///
     /// From a console it moves out all output that waits, in place of a frame: a buffer of 65536 bytes takes all that there may be.
     /// Call it once after each write to the window. What finds no room waits with its driver for such a call, but the byte of an
@@ -173,9 +194,9 @@ impl Board {
     /// # use kalyubos::{Board, Config, Device, Slot};
     /// let card = Device::Network { mac: [2, 0, 0, 0, 0, 1], mtu: 1500 };
     /// let mut board = Board::create(&Config::new(&[Slot::hosted(0, 0x1000, 1).with_device(card)]))?;
-    /// assert!(board.receive(0, 0, &[7; 1514])?);
+    /// assert!(board.receive(0, 0, &[7; 1514])?.taken);
     /// let mut frame = vec![0; 65536]; // as much as a driver may send, whatever the MTU
-    /// assert_eq!(board.take_frame(0, 0, &mut frame)?, None);
+    /// assert_eq!(board.take_frame(0, 0, &mut frame)?.taken, None);
     /// # Ok::<(), Box<dyn std::error::Error>>(())
     /// ```
     pub fn take_frame(
@@ -183,9 +204,9 @@ impl Board {
         slot: u8,
         device: u8,
         into: &mut [u8],
-    ) -> Result<Option<usize>, Error> {
+    ) -> Result<Handed<Option<usize>>, Error> {
         let mut len = 0;
-        Error::check(unsafe {
+        let number = unsafe {
             ffi::kalyubos_take_frame(
                 self.handle_mut(),
                 slot,
@@ -194,8 +215,8 @@ impl Board {
                 into.len(),
                 &mut len,
             )
-        })?;
-        Ok((len != 0).then_some(len))
+        };
+        Handed::told(number, (len != 0).then_some(len))
     }
 
     /// Sets whether a network card's link is up, and tells its driver.

@@ -21,7 +21,7 @@ mod tags;
 pub use board::{Board, Budget, Interrupts, Pending, Window};
 pub use config::Config;
 pub use counters::Counters;
-pub use device::{Device, DevicePending};
+pub use device::{Device, DevicePending, Handed};
 pub use error::{CreateError, Error, Fault, RestoreError};
 pub use fault::{DriverFault, FaultKind};
 pub use identity::{Identity, IdentityTooLong};

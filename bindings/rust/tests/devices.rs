@@ -1,9 +1,10 @@
 //! Further devices: an entropy device, a network card, a disk and a console, from their making to what their drivers get.
 
 use kalyubos::{
-    Board, Config, CreateError, Device, DevicePending, Error, Kind, Outcome, Run, Slot, Tags,
-    Window,
+    Board, Budget, Config, CreateError, Device, DevicePending, Error, Handed, Kind, Outcome, Run,
+    Slot, Tags, Window,
 };
+use std::num::NonZeroU32;
 
 const MEMORY: u64 = 0x8000_0000;
 const LEN: u64 = 0x1_0000;
@@ -20,11 +21,20 @@ fn slot() -> Slot {
 }
 
 fn board_of(devices: &[Device]) -> Board {
+    board_within(devices, Budget::default())
+}
+
+fn board_within(devices: &[Device], budget: Budget) -> Board {
     let slot = devices
         .iter()
         .fold(slot(), |slot, one| slot.with_device(*one));
     assert_eq!(slot.devices(), devices);
-    Board::create(&Config::new(&[slot])).expect("a board")
+    Board::create(&Config::new(&[slot]).with_budget(budget)).expect("a board")
+}
+
+/// All is taken and served.
+fn whole<T>(taken: T) -> Result<Handed<T>, Error> {
+    Ok(Handed { taken, more: false })
 }
 
 /// A driver brings a device's queue of four up, and offers a chain of one buffer at 0x400.
@@ -223,7 +233,7 @@ fn a_driver_gets_the_bytes_of_its_host() {
     let mut board = board_of(&[Device::Entropy]);
     offer(&mut board, 0, 0, 16, 2);
     assert!(board.device_pending(0, 0).unwrap().starved);
-    assert_eq!(board.supply(0, 0, b"sixteen bytes..!"), Ok(16));
+    assert_eq!(board.supply(0, 0, b"sixteen bytes..!"), whole(16));
     let pending = board.device_pending(0, 0).unwrap();
     assert_eq!((pending.interrupt, pending.starved), (1, false));
     assert_eq!(used(&mut board), (1, 16));
@@ -241,7 +251,7 @@ fn frames_go_both_ways() {
         assert_eq!(board.receive(0, 1, &vec![1; len]), Err(Error::BadDevice));
     }
     offer(&mut board, 1, 0, 200, 2);
-    assert_eq!(board.receive(0, 1, &[9; 82]), Ok(true));
+    assert_eq!(board.receive(0, 1, &[9; 82]), whole(true));
     assert_eq!(used(&mut board), (1, 82 + HEADER as u8));
     let chain = &board.memory(0, MEMORY + 0x400).unwrap()[..HEADER + 83];
     assert_eq!((chain[10], chain[HEADER], chain[HEADER + 82]), (1, 9, 0));
@@ -260,9 +270,9 @@ fn frames_go_both_ways() {
         board.take_frame(0, 1, &mut into[..63]),
         Err(Error::ShortBuffer)
     );
-    assert_eq!(board.take_frame(0, 1, &mut into), Ok(Some(64)));
+    assert_eq!(board.take_frame(0, 1, &mut into), whole(Some(64)));
     assert_eq!((into[0], into[63], into[64]), (5, 5, 0));
-    assert_eq!(board.take_frame(0, 1, &mut into), Ok(None));
+    assert_eq!(board.take_frame(0, 1, &mut into), whole(None));
 
     assert_eq!(board.set_link(0, 1, false), Ok(()));
     assert_eq!(board.device_pending(0, 1).unwrap().interrupt, 3);
@@ -282,7 +292,7 @@ fn a_console_has_input_output_and_a_size() {
 
     offer(&mut board, 1, 0, 8, 2);
     assert!(board.device_pending(0, 1).unwrap().starved);
-    assert_eq!(board.supply(0, 1, b"ls\n"), Ok(3));
+    assert_eq!(board.supply(0, 1, b"ls\n"), whole(3));
     assert_eq!(used(&mut board), (1, 3));
     assert_eq!(&board.memory(0, MEMORY + 0x400).unwrap()[..4], b"ls\n\0");
 
@@ -294,7 +304,87 @@ fn a_console_has_input_output_and_a_size() {
         board.take_frame(0, 1, &mut into[..63]),
         Err(Error::ShortBuffer)
     );
-    assert_eq!(board.take_frame(0, 1, &mut into), Ok(Some(64)));
+    assert_eq!(board.take_frame(0, 1, &mut into), whole(Some(64)));
     assert_eq!((into[0], into[63], into[64]), (b'x', b'x', 0));
-    assert_eq!(board.take_frame(0, 1, &mut into), Ok(None));
+    assert_eq!(board.take_frame(0, 1, &mut into), whole(None));
+}
+
+/// So many chains are on offer in all, each of the one buffer. The driver doesn't notify.
+fn offer_silently(board: &mut Board, chains: u8) {
+    board.memory(0, MEMORY).expect("a memory")[0x202] = chains;
+}
+
+#[test]
+fn what_is_handed_in_pauses_and_goes_on() {
+    let budget = Budget {
+        chains: NonZeroU32::new(1),
+        bytes: None,
+    };
+    let mut board = board_within(&[Device::Entropy, CARD], budget);
+    offer(&mut board, 0, 0, 4, 2);
+    offer_silently(&mut board, 3);
+    let handed = board.supply(0, 0, b"twelve bytes").unwrap();
+    assert_eq!((handed.taken, handed.more), (12, true));
+    assert_eq!(board.device_pending(0, 0).unwrap().interrupt, 0);
+    assert_eq!(board.supply(0, 0, b"more"), Err(Error::Busy));
+    assert!(board.go_on(0).unwrap().more);
+    assert!(!board.go_on(0).unwrap().more);
+    assert_eq!(board.device_pending(0, 0).unwrap().interrupt, 1);
+    assert_eq!(used(&mut board), (3, 4));
+
+    for _ in 0..2 {
+        assert_eq!(board.receive(0, 1, &[1; 20]), whole(true)); // they wait
+    }
+    offer(&mut board, 1, 0, 32, 2);
+    offer_silently(&mut board, 3);
+    let handed = board.receive(0, 1, &[2; 19]).unwrap();
+    assert_eq!((handed.taken, handed.more), (true, true));
+    assert_eq!(board.take_frame(0, 1, &mut [0; 1]), Err(Error::Busy));
+    assert!(!board.go_on(0).unwrap().more);
+    assert_eq!(used(&mut board), (3, 32));
+    assert_eq!(board.memory(0, MEMORY + 0x400).unwrap()[HEADER], 2);
+}
+
+#[test]
+fn what_a_driver_sends_pauses_and_goes_on() {
+    let budget = Budget {
+        chains: NonZeroU32::new(1),
+        bytes: None,
+    };
+    let console = Device::Console { cols: 80, rows: 25 };
+    let mut board = board_within(&[console], budget);
+    offer(&mut board, 0, 1, 2, 0);
+    offer_silently(&mut board, 3);
+    let window = Window::Device(0);
+    assert!(board.write(0, window, NOTIFY, 4, 1).unwrap().more);
+    assert_eq!(board.device_pending(0, 0).unwrap().frame, Some(4));
+    assert_eq!(board.read(0, window, STATUS, 4), Err(Error::Busy));
+    assert!(!board.go_on(0).unwrap().more);
+    assert_eq!(board.take_frame(0, 0, &mut [0; 8]), whole(Some(6)));
+}
+
+#[test]
+fn what_a_take_makes_room_for_pauses_and_goes_on() {
+    let budget = Budget {
+        chains: NonZeroU32::new(1),
+        bytes: None,
+    };
+    let mut board = board_within(&[CARD], budget);
+    let window = Window::Device(0);
+    offer(&mut board, 0, 1, HEADER as u32 + 1, 0);
+    for frames in 2..=64 {
+        offer_silently(&mut board, frames);
+        assert!(!board.write(0, window, NOTIFY, 4, 1).unwrap().more);
+    }
+    offer_silently(&mut board, 66); // the card has room for 64 frames
+    assert!(!board.write(0, window, NOTIFY, 4, 1).unwrap().more);
+    assert_eq!(used(&mut board).0, 64);
+
+    let handed = board.take_frame(0, 0, &mut [0; 8]).unwrap();
+    assert_eq!((handed.taken, handed.more), (Some(1), true));
+    assert_eq!(board.take_frame(0, 0, &mut [0; 8]), Err(Error::Busy));
+    assert!(!board.go_on(0).unwrap().more);
+    assert_eq!(used(&mut board).0, 65);
+    assert_eq!(board.take_frame(0, 0, &mut [0; 8]), whole(Some(1)));
+    assert_eq!(used(&mut board).0, 66);
 }
