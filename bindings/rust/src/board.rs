@@ -438,7 +438,7 @@ impl Board {
         Ok(disturbed)
     }
 
-    /// What the slot's disk and console did since the board was made. It may be asked at any time, also in a pause.
+    /// What the slot's devices did since the board was made. It may be asked at any time, also in a pause.
     ///
     /// ```
     /// # use kalyubos::{Board, Config, Counters, Slot};
