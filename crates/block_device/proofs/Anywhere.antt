@@ -25,6 +25,7 @@ use Rattle.block_device.specs.declared.request.Request.{Request}
 use Rattle.block_device.specs.Asking.{EndsUnasked, asks_image, unasked_device}
 use Rattle.block_device.specs.Device.{GivesBy}
 use Rattle.block_device.specs.Extent.{extent_disk}
+use Rattle.mmio_window.specs.declared.queue.Token.{Token}
 use Rattle.block_device.specs.declared.hosting.Flight.{Flight}
 use Rattle.block_device.specs.Hosting.{AsksAt, HostsTo, IfAsks, hosted_by, hosted_device, site_of}
 use Rattle.block_device.specs.Operation.{IsToldToHost}
@@ -139,6 +140,6 @@ hosts_to device stage budget found queue last left progress m m' w w' buffers ru
     (serves_to (hosted_device device) stage budget 0 found queue last left progress m m' w w' tt tt
     is contents shows h))
 
-pub none_asks : (P : Flight → Type 0) (progress : Progress) → IfAsks P (hosted_by progress)
+pub none_asks : (P : Flight Token → Type 0) (progress : Progress) → IfAsks P (hosted_by progress)
 none_asks P More = tt
 none_asks P Done = tt

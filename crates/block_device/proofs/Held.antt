@@ -1,7 +1,6 @@
 -- What is in flight lies between the next used entry and the next chain, also once one more chain asks.
-use Rattle.std.proofs.Common.{◌≡◌, ◌∙◌, ℕ, Bool, true, false, cond, suc, ◌<◌, Option, Some, None, List, [], ◌∷◌, length, get_or, set, refl, sym, ap, subst, arith}
+use Rattle.std.proofs.Common.{◌≡◌, ◌∙◌, ℕ, Bool, true, false, cond, ◌<◌, Option, Some, None, List, [], ◌∷◌, length, get_or, set, refl, sym, ap, subst, arith}
 use Rattle.std.specs.Prelude.{All, IfSome, sum_by}
-use Rattle.std.specs.Option.{option_map}
 use Rattle.std.proofs.lemmas.List.{get_or-map, length-map, map-set}
 use Rattle.std.proofs.lemmas.List.Elements.{All-cons, All-nil, All-weaker}
 use Rattle.guest_memory.specs.Memory.{Memory}
@@ -25,10 +24,13 @@ use Rattle.mmio_window.proofs.Pieces.{queue_stands_open}
 use Rattle.block_device.specs.declared.device.BlockDevice.{BlockDevice}
 use Rattle.block_device.specs.declared.operation.Verdict.{Verdict}
 use Rattle.block_device.specs.Asking.{unasked_device}
-use Rattle.block_device.specs.Flights.{AreHeld, AsksNext, HostedQueue, InFlight, IsLanding, LandsBy, LookEnds, LooksFrom, TagIsHeld, free_tag, freed, token_in, tokens_of, unlimited}
+use Rattle.block_device.specs.Flights.{AreHeld, AsksNext, HostedQueue, InFlight, IsLanding, LandsBy, LookEnds, LooksFrom, unlimited}
+use Rattle.block_device.specs.Tags.{free_tag, is_any, token_in, tokens_of}
 use Rattle.block_device.specs.declared.hosting.Hosted.TheVariants as hosted
 use Rattle.block_device.specs.Extent.{extent_disk}
 use Rattle.block_device.specs.Hosting.{HostsTo, site_of}
+use Rattle.block_device.proofs.Freeing.{is_free}
+use Rattle.block_device.proofs.Holding.{none_held}
 use Rattle.block_device.proofs.Unasked.{any_disk}
 
 -- of the queue that the window's device may serve, the chains of these tags are in flight
@@ -72,27 +74,6 @@ AreAhead-opened_at First m queue tags are = AreAhead-stands queue (opened m queu
     stands (Split ring) = record { made = refl; ahead = refl }
     stands (Packed ring) = record { made = refl; ahead = refl }
 AreAhead-opened_at Next m queue tags are = are
-
--- ---- the free tag
-
-pub record IsFree (tags : List (Option InFlight)) (i : ℕ) : Type 0 where
-  pub there : i < length tags
-  pub free : get_or tags i None ≡ None
-
-free_later : (tags : List (Option InFlight)) (here : InFlight) (f : Option ℕ) (i : ℕ) → free_tag tags ≡ f
-    → ((j : ℕ) → free_tag tags ≡ Some j → IsFree tags j) → option_map suc f ≡ Some i → IsFree (Some here ∷ tags) i
-free_later tags here None i is rest e = cc e
-free_later tags here (Some j) i is rest e =
-    let at : suc j ≡ i = cc e in
-    let free = rest j is in
-    subst (λ k. IsFree (Some here ∷ tags) k) at (record { there = omega (arith, free.there); free = free.free })
-
-pub is_free : (tags : List (Option InFlight)) (i : ℕ) → free_tag tags ≡ Some i → IsFree tags i
-is_free [] i e = cc e
-is_free (None ∷ tags) i e =
-    let at : 0 ≡ i = cc e in
-    subst (λ k. IsFree (None ∷ tags) k) at (record { there = omega arith; free = refl })
-is_free (Some here ∷ tags) i e = free_later tags here (free_tag tags) i refl (is_free tags) e
 
 -- ---- one more chain asks
 
@@ -286,32 +267,29 @@ ahead_looked device stage old (here ∷ asked) new looks held =
     ahead_looked device Next looks.0 asked new looks.2
     (ahead_asked device stage old looks.0 here looks.1 held)
 
--- ---- free tags are held, whatever memory and window there are
+-- ---- where nothing is in flight all is held, whatever memory and window there are
 
-freed_each : (capacity : ℕ) (m : Memory) (tags : List (Option InFlight)) → All (TagIsHeld capacity m) (freed tags)
-freed_each capacity m [] = All-nil (TagIsHeld capacity m)
-freed_each capacity m (tag ∷ tags) =
-    All-cons (TagIsHeld capacity m) None (freed tags) tt (freed_each capacity m tags)
+none_fit : (queue : Queue) (tags : List (Option InFlight)) → is_any tags ≡ false → All (TagFits queue) (tokens_of tags)
+none_fit queue [] none = All-nil (TagFits queue)
+none_fit queue (None ∷ tags) none = All-cons (TagFits queue) None (tokens_of tags) tt (none_fit queue tags none)
+none_fit queue (Some here ∷ tags) none = absurd (cc none)
 
-freed_fit : (queue : Queue) (tags : List (Option InFlight)) → All (TagFits queue) (tokens_of (freed tags))
-freed_fit queue [] = All-nil (TagFits queue)
-freed_fit queue (tag ∷ tags) = All-cons (TagFits queue) None (tokens_of (freed tags)) tt (freed_fit queue tags)
+no_places : (tags : List (Option InFlight)) → is_any tags ≡ false → sum_by tag_places (tokens_of tags) ≡ 0
+no_places [] none = refl
+no_places (None ∷ tags) none = no_places tags none
+no_places (Some here ∷ tags) none = absurd (cc none)
 
-freed_places : (tags : List (Option InFlight)) → sum_by tag_places (tokens_of (freed tags)) ≡ 0
-freed_places [] = refl
-freed_places (tag ∷ tags) = freed_places tags
-
-freed_ahead : (found : Option Queue) (tags : List (Option InFlight))
-    → IfSome found (λ queue. AreAhead queue (tokens_of (freed tags)))
-freed_ahead None tags = tt
-freed_ahead (Some queue) tags = record {
-  each = freed_fit queue tags;
-  places = let none = freed_places tags in omega (arith, none);
+none_ahead : (found : Option Queue) (tags : List (Option InFlight)) → is_any tags ≡ false
+    → IfSome found (λ queue. AreAhead queue (tokens_of tags))
+none_ahead None tags none = tt
+none_ahead (Some queue) tags none = record {
+  each = none_fit queue tags none;
+  places = let zero = no_places tags none in omega (arith, zero);
 }
 
-pub freed_held : (capacity : ℕ) (m : Memory) (window : WindowState) (tags : List (Option InFlight))
-    → AreHeld capacity (record { memory = m; window = window; tags = freed tags })
-freed_held capacity m window tags = record {
-  each = freed_each capacity m tags;
-  ahead = freed_ahead (queue_at 0 window) tags;
+pub idle_tags_held : (capacity : ℕ) (m : Memory) (w : WindowState) (tags : List (Option InFlight)) → is_any tags ≡ false
+    → AreHeld capacity (record { memory = m; window = w; tags = tags })
+idle_tags_held capacity m w tags none = record {
+  each = none_held capacity m tags none;
+  ahead = none_ahead (queue_at 0 w) tags none;
 }

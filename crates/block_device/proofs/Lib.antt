@@ -7,8 +7,10 @@ pub mod Endings
 pub mod Exact
 pub mod Extents
 pub mod Failing
+pub mod Freeing
 pub mod Guests
 pub mod Held
+pub mod Holding
 pub mod Judging
 pub mod Keeping
 pub mod OneLook
@@ -21,6 +23,6 @@ pub mod Touching
 pub mod Transfers
 pub mod Unasked
 pub mod Landing
-pub mod Tags
+pub mod Looking
 pub mod WholeLooks
 pub mod Zeroing

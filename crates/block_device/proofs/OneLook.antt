@@ -265,12 +265,12 @@ asked_once device start one m b c s t q r same x y =
     }
 
 same_flight : (s t : Token) (o p : Operation) (a b n k : ℕ) → s ≡ t → o ≡ p → a ≡ b → n ≡ k
-    → ◌≡◌ {A = Flight} (record { token = s; operation = o; status = a; writable = n })
+    → ◌≡◌ {A = Flight Token} (record { token = s; operation = o; status = a; writable = n })
     (record { token = t; operation = p; status = b; writable = k })
 same_flight s t o p a b n k e f g h = rw (e, f, g, h) refl
 
 -- one chain has its status in one place
-same_status : (b : List Buffer) (f g : Flight) → HasStatusAt b f → HasStatusAt b g
+same_status : (b : List Buffer) (f g : Flight Token) → HasStatusAt b f → HasStatusAt b g
     → (f.status ≡ g.status) × (f.writable ≡ g.writable)
 same_status b f g x y =
     let writable : f.writable ≡ g.writable = x.writable ∙ sym y.writable in
@@ -278,7 +278,7 @@ same_status b f g x y =
     ∙ ap (λ (n : ℕ). drop (n - 1) (writable_of b)) writable ∙ y.status in
     (cc last, writable)
 
-asks_once : (device : BlockDevice) (stage : Stage) (found : Option Queue) (f g : Flight) (old m n : Memory)
+asks_once : (device : BlockDevice) (stage : Stage) (found : Option Queue) (f g : Flight Token) (old m n : Memory)
     (before v w : WindowState) (b c : List Buffer) (r s : List Segment) (disk : Disk)
     → AsksIn device stage found old m before v b r f disk
     → AsksIn device stage found old n before w c s g disk
@@ -306,7 +306,7 @@ asks_once device stage found f g old m n before v w b c r s disk x y =
     let status = same_status c f g (subst (λ (l : List Buffer). HasStatusAt l f) asked.buffers x.status)
     y.status in
     record {
-      outcome = ap (λ (k : Flight). hosted.Asks k)
+      outcome = ap (λ (k : Flight Token). hosted.Asks k)
           (same_flight f.token g.token f.operation g.operation f.status g.status f.writable g.writable
           asked.token operation status.0 status.1);
       memory = memory;
@@ -418,7 +418,7 @@ finish_once device budget (Some queue) old m n before v w disk x y =
     (a.closed ∙ ap (close_site queue_kind (unasked_device device)) last ∙ sym b.closed) run.ending
     (same_answer p.wanted q.wanted _ a.wanted_is (rw (← last) at b.wanted_is)) p.window q.window
 
-asks_or_finishes : (device : BlockDevice) (budget : Budget) (found : Option Queue) (f : Flight)
+asks_or_finishes : (device : BlockDevice) (budget : Budget) (found : Option Queue) (f : Flight Token)
     (old m n : Memory) (before v w : WindowState) (b : List Buffer) (r : List Segment) (disk : Disk)
     → AsksIn device Next found old m before v b r f disk
     → IsFinishedWithin (unasked_device device) budget 0 found old n before w (extent_disk device.extent disk)
@@ -444,7 +444,7 @@ runs_or_faults device start last at (Some fault) ending chains none works serves
 runs_or_faults device start last at None ending chains none works serves asks =
     stop_or_end device start chains works.chains at works.at ending serves works.serves asks works.ends
 
-asks_or_ends : (device : BlockDevice) (found : Option Queue) (f : Flight) (old m n : Memory)
+asks_or_ends : (device : BlockDevice) (found : Option Queue) (f : Flight Token) (old m n : Memory)
     (before v w : WindowState) (b : List Buffer) (r : List Segment) (disk : Disk)
     → AsksIn device First found old m before v b r f disk
     → IsNotified (unasked_device device) 0 found old n before w (extent_disk device.extent disk)
@@ -496,7 +496,7 @@ done_once device First budget found old m n before v w disk x y =
 done_once device Next budget found old m n before v w disk x y =
     finish_once device budget found old m n before v w disk x y
 
-asks_or_done : (device : BlockDevice) (stage : Stage) (budget : Budget) (found : Option Queue) (f : Flight)
+asks_or_done : (device : BlockDevice) (stage : Stage) (budget : Budget) (found : Option Queue) (f : Flight Token)
     (old m n : Memory) (before v w : WindowState) (b : List Buffer) (r : List Segment) (disk : Disk)
     → AsksIn device stage found old m before v b r f disk
     → ServesTo stage (unasked_device device) budget 0 found progress.Done old n before w
@@ -535,7 +535,7 @@ one_look device stage budget found hosted.Done hosted.More old m n before v w b 
 
 -- ---- a completion
 
-pub one_completion : (flight : Flight) (answer : Verdict) (old m n : Memory) (before v w : WindowState)
+pub one_completion : (flight : Flight Token) (answer : Verdict) (old m n : Memory) (before v w : WindowState)
     → CompletesIn flight answer old m before v → CompletesIn flight answer old n before w
     → (m ≡ n) × (v ≡ w)
 one_completion flight answer old m n before v w x y =

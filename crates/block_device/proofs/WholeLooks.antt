@@ -8,10 +8,12 @@ use Rattle.mmio_window.specs.declared.stage.Stage.{Stage}
 use Rattle.mmio_window.specs.declared.stage.Stage.TheVariants.{Next}
 use Rattle.mmio_window.specs.Window.{WindowState, queue_at}
 use Rattle.block_device.specs.declared.device.BlockDevice.{BlockDevice}
+use Rattle.mmio_window.specs.declared.queue.Token.{Token}
 use Rattle.block_device.specs.declared.hosting.Flight.{Flight}
 use Rattle.block_device.specs.declared.hosting.Hosted.{Hosted}
 use Rattle.block_device.specs.declared.hosting.Hosted.TheVariants as hosted
-use Rattle.block_device.specs.Flights.{AsksNext, HostedQueue, InFlight, LookEnds, LooksFrom, free_tag, unlimited}
+use Rattle.block_device.specs.Flights.{AsksNext, HostedQueue, InFlight, LookEnds, LooksFrom, unlimited}
+use Rattle.block_device.specs.Tags.{free_tag}
 use Rattle.block_device.specs.Hosting.{HostsTo, SameLook}
 use Rattle.block_device.proofs.OneLook.{one_look}
 use Rattle.block_device.proofs.Unasked.{any_disk}
@@ -30,11 +32,11 @@ same_queue : (m n : Memory) (v w : WindowState) (t u : List (Option InFlight)) �
     → ◌≡◌ {A = HostedQueue} (record { memory = m; window = v; tags = t }) (record { memory = n; window = w; tags = u })
 same_queue m n v w t u p q r = rw (p, q, r) refl
 
-same_flying : (f g : Flight) (r s : List Segment) → f ≡ g → r ≡ s
+same_flying : (f g : Flight Token) (r s : List Segment) → f ≡ g → r ≡ s
     → ◌≡◌ {A = InFlight} (record { flight = f; runs = r }) (record { flight = g; runs = s })
 same_flying f g r s p q = rw (p, q) refl
 
-asked_flight : (f g : Flight) → hosted.Asks f ≡ hosted.Asks g → f ≡ g
+asked_flight : (f g : Flight Token) → hosted.Asks f ≡ hosted.Asks g → f ≡ g
 asked_flight f g e = cc e
 
 -- the next chain that asks

@@ -1,12 +1,9 @@
--- Operations in flight of one disk that the host serves, each in a tag of its own, and what a look at the queue,
--- a landing and a drop make of them. How many tags there are was chosen as the slot was made.
-use Rattle.std.specs.Prelude.{◌≡◌, ℕ, suc, ◌+◌, ◌*◌, ◌<◌, ⊤, Bool, Option, Some, None, is_some, List, [], ◌∷◌, map, get_or, set, All, IfSome}
-use Rattle.std.specs.List.{list_any}
-use Rattle.std.specs.Option.{option_map}
-use Rattle.guest_memory.specs.Memory.{Memory, Inside}
+-- Operations in flight of one disk that the host serves, in its window: what a look at the queue, a landing and a drop
+-- make of its tags.
+use Rattle.std.specs.Prelude.{◌≡◌, ℕ, Option, Some, None, List, [], ◌∷◌, get_or, set, All, IfSome}
+use Rattle.guest_memory.specs.Memory.{Memory}
 use Rattle.chain.specs.declared.budget.Budget.{Budget}
 use Rattle.chain.specs.declared.segment.Buffer.{Buffer}
-use Rattle.chain.specs.declared.segment.Segment.{Segment}
 use Rattle.sector_cache.specs.Disk.{Disk}
 use Rattle.mmio_window.specs.declared.queue.Queue.{Queue}
 use Rattle.mmio_window.specs.declared.queue.Token.{Token}
@@ -15,34 +12,21 @@ use Rattle.mmio_window.specs.declared.stage.Stage.TheVariants.{First, Next}
 use Rattle.mmio_window.specs.Queue.{AreAhead}
 use Rattle.mmio_window.specs.Window.{WindowState, queue_at, with_reset_asked}
 use Rattle.block_device.specs.declared.device.BlockDevice.{BlockDevice}
-use Rattle.block_device.specs.declared.hosting.Flight.{Flight}
 use Rattle.block_device.specs.declared.hosting.Hosted.TheVariants.{Asks, Done}
-use Rattle.block_device.specs.declared.operation.Operation.{Operation}
 use Rattle.block_device.specs.declared.operation.Verdict.{Verdict}
 use Rattle.block_device.specs.Hosting.{CompletesIn, HostsTo}
-use Rattle.block_device.specs.Operation.{LiesInside}
+use Rattle.block_device.specs.Tags as tables
+use Rattle.block_device.specs.Tags.{TagIsHeld, free_tag, freed, tokens_of}
 
--- a chain in flight, and the runs of its operation
-pub record InFlight : Type 0 where
-  pub flight : Flight
-  pub runs : List Segment
-
--- the chain in flight, the runs of whose operation stand in its tag's room
-abbrev pub in_room : Option Flight → List Segment → Option InFlight
-in_room None runs = None
-in_room (Some flight) runs = Some (record { flight = flight; runs = runs })
+-- a chain in flight of a window's queue
+abbrev pub InFlight : Type 0
+InFlight = tables.InFlight Token
 
 -- where the queue of such a disk stands: the guest's memory, the window, and the tags
 pub record HostedQueue : Type 0 where
   pub memory : Memory
   pub window : WindowState
   pub tags : List (Option InFlight)
-
--- the first free tag
-abbrev pub free_tag : List (Option InFlight) → Option ℕ
-free_tag [] = None
-free_tag (None ∷ tags) = Some 0
-free_tag (Some here ∷ tags) = option_map suc (free_tag tags)
 
 -- ---- a look at the queue
 
@@ -96,11 +80,6 @@ pub record IsLook (device : BlockDevice) (old new : HostedQueue) : Type 0 where
 
 -- ---- a landing
 
--- the chain in flight in this tag
-abbrev pub flight_in : Option InFlight → Option Flight
-flight_in None = None
-flight_in (Some here) = Some here.flight
-
 -- The chain is given back, and its driver is notified where it wants to be; its tag is free again.
 pub record IsGivenIn (tag : ℕ) (here : InFlight) (verdict : Verdict) (old new : HostedQueue) : Type 0 where
   pub completes : CompletesIn here.flight verdict old.memory new.memory old.window new.window
@@ -120,10 +99,6 @@ pub record IsLanding (tag : ℕ) (verdict : Verdict) (old new : HostedQueue) : T
 
 -- ---- a drop
 
--- so many free tags
-abbrev pub freed : List (Option InFlight) → List (Option InFlight)
-freed tags = map (λ tag. None) tags
-
 -- What is in flight is given up: each tag is free, nothing is written, and the device asks to be reset, since its
 -- driver can't count on what was in flight (2.1.2).
 abbrev pub given_up : HostedQueue → HostedQueue
@@ -131,47 +106,8 @@ given_up q = record q { window = with_reset_asked q.window; tags = freed q.tags 
 
 -- ---- what holds between two calls
 
--- The chain's status has a place in the memory, and nothing that the host is told lies outside the guest's
--- memory or its disk of so many sectors.
-pub record IsHeld (capacity : ℕ) (m : Memory) (here : InFlight) : Type 0 where
-  pub status : Inside m here.flight.status 1
-  pub some : 0 < here.flight.writable
-  pub inside : LiesInside capacity m here.flight.operation here.runs
-
-abbrev pub TagIsHeld : ℕ → Memory → Option InFlight → Type 0
-TagIsHeld capacity m None = ⊤
-TagIsHeld capacity m (Some here) = IsHeld capacity m here
-
-abbrev pub token_in : Option InFlight → Option Token
-token_in None = None
-token_in (Some here) = Some here.flight.token
-
-abbrev pub tokens_of : List (Option InFlight) → List (Option Token)
-tokens_of tags = map token_in tags
-
 -- What is in flight is held: of a queue that may be served it lies between the next used entry and the next
 -- chain.
 pub record AreHeld (capacity : ℕ) (h : HostedQueue) : Type 0 where
   pub each : All (TagIsHeld capacity h.memory) h.tags
   pub ahead : IfSome (queue_at 0 h.window) (λ queue. AreAhead queue (tokens_of h.tags))
-
--- ---- what a host is told
-
--- what the host is asked to do by this tag, and where its bytes lie
-abbrev pub operation_in : Option InFlight → Option Operation
-operation_in None = None
-operation_in (Some here) = Some here.flight.operation
-
-abbrev pub runs_in : Option InFlight → List Segment
-runs_in None = []
-runs_in (Some here) = here.runs
-
--- the tags in flight as a set of bits: bit n is set where tag n is taken
-abbrev pub taken_bits : List (Option InFlight) → ℕ
-taken_bits [] = 0
-taken_bits (None ∷ tags) = 2 * taken_bits tags
-taken_bits (Some here ∷ tags) = 1 + 2 * taken_bits tags
-
--- whether anything is in flight
-abbrev pub is_any : List (Option InFlight) → Bool
-is_any tags = list_any is_some tags

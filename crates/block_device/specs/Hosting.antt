@@ -78,14 +78,14 @@ abbrev pub wants_stable : WindowState → Bool
 wants_stable w = not (has (negotiated_of w.negotiation) block_flush)
 
 -- The chain has its status at this address, the last of its writable list, which is so long (5.2.6).
-pub record HasStatusAt (buffers : List Buffer) (flight : Flight) : Type 0 where
+pub record HasStatusAt (buffers : List Buffer) (flight : Flight Token) : Type 0 where
   pub writable : flight.writable ≡ length (writable_of buffers)
   pub status : drop (flight.writable - 1) (writable_of buffers) ≡ flight.status ∷ []
 
 -- The same as the window shows it, which shows nothing yet of a queue that stands open: the chain is in flight,
 -- and the queue goes on behind it. And what the host is told.
 pub record AsksIn (device : BlockDevice) (stage : Stage) (found : Option Queue) (old new : Memory)
-    (before after : WindowState) (buffers : List Buffer) (runs : List Segment) (flight : Flight)
+    (before after : WindowState) (buffers : List Buffer) (runs : List Segment) (flight : Flight Token)
     (disk : Disk) : Type 0 where
   pub queue : Queue
   pub ready : Some queue ≡ found
@@ -117,7 +117,7 @@ hosted_by progress.More = hosted.More
 hosted_by progress.Done = hosted.Done
 
 -- of a piece that asks, this holds of the chain in flight
-abbrev pub IfAsks : (Flight → Type 0) → Hosted → Type 0
+abbrev pub IfAsks : (Flight Token → Type 0) → Hosted → Type 0
 IfAsks P (hosted.Asks flight) = P flight
 IfAsks P hosted.More = Unit {0}
 IfAsks P hosted.Done = Unit {0}
@@ -135,7 +135,7 @@ pub record SameLook (one other : Hosted) (m n : Memory) (v w : WindowState) (b c
 
 -- The chain is in flight: its token is of the queue that the device may serve, and its status has a place in
 -- the memory.
-pub record IsInFlight (m : Memory) (w : WindowState) (flight : Flight) : Type 0 where
+pub record IsInFlight (m : Memory) (w : WindowState) (flight : Flight Token) : Type 0 where
   pub queue : Queue
   pub ready : queue_at 0 w ≡ Some queue
   pub ahead : IsAhead queue flight.token
@@ -145,17 +145,17 @@ pub record IsInFlight (m : Memory) (w : WindowState) (flight : Flight) : Type 0 
 -- It outlasts all that leaves the memory's range and the window's queues.
 abbrev pub FlightOutlasts : Type 0
 FlightOutlasts =
-    (old new : Memory) (before after : WindowState) (flight : Flight)
+    (old new : Memory) (before after : WindowState) (flight : Flight Token)
     → IsInFlight old before flight
     → SameRange old new → KeepsQueues before after → IsInFlight new after flight
 
 -- Its status is written as the host says, on the memory as the host left it, and this is its used length.
-pub record IsCompleted (flight : Flight) (answer : Verdict) (old new : Memory) (len : ℕ) : Type 0 where
+pub record IsCompleted {T : Type 0} (flight : Flight T) (answer : Verdict) (old new : Memory) (len : ℕ) : Type 0 where
   pub memory : new ≡ put old flight.status (code_of (status_by answer) ∷ [])
   pub len_is : len ≡ used_by (found_by flight.operation.kind answer (flight.writable - 1)) flight.writable
 
 -- It is completed and given back.
-pub record IsGivenBack (flight : Flight) (answer : Verdict) (old new : Memory)
+pub record IsGivenBack (flight : Flight Token) (answer : Verdict) (old new : Memory)
     (before after : Queue) : Type 0 where
   pub done : Memory
   pub len : ℕ
@@ -165,7 +165,7 @@ pub record IsGivenBack (flight : Flight) (answer : Verdict) (old new : Memory)
 
 -- The same in its window, as an event of its own: the service ends behind it, and its driver is notified
 -- where it wants to be.
-pub record CompletesIn (flight : Flight) (answer : Verdict) (old new : Memory)
+pub record CompletesIn (flight : Flight Token) (answer : Verdict) (old new : Memory)
     (before after : WindowState) : Type 0 where
   pub queue : Queue
   pub ready : queue_at 0 before ≡ Some queue
@@ -194,7 +194,7 @@ pub record DoesLater (device : Device Disk) (asked old new : Memory) (buffers : 
 abbrev pub HonestHostServes : Type 0
 HonestHostServes =
     (device : BlockDevice) (asked old new : Memory) (before after : Queue) (disk disk' : Disk)
-    (buffers : List Buffer) (found : List ℕ) (flight : Flight) (answer : Verdict) (request : Request)
+    (buffers : List Buffer) (found : List ℕ) (flight : Flight Token) (answer : Verdict) (request : Request)
     → IsAsked device asked buffers request
     → HasStatusAt buffers flight
     → Ends device.identity request (payload_of (readable_of asked buffers)) disk

@@ -10,6 +10,7 @@ pub mod Outcome
 pub mod Payload
 pub mod Progress
 pub mod Request
+pub mod Tags
 pub mod Keeping
 pub mod Touching
 pub mod Zeroes

@@ -1,8 +1,7 @@
-//! The operations in flight of a disk that the host serves, each in a tag of its own: a look at the queue takes free tags,
-//! landings in any order free them again, and a drop frees all.
+//! The operations in flight of a disk that the host serves, in its window: what a look at the queue, a landing and a drop make of
+//! the tags.
 
-ghost use Rattle.std.specs.Prelude.{◌≡◌, ℕ, ◌*◌, ◌^◌, ◌<◌, ◌≤◌, [], All, Option, Some, None, IfOk, IfSome, get_or, length, replicate, set};
-ghost use Rattle.std.specs.Option.{option_map};
+ghost use Rattle.std.specs.Prelude.{◌≡◌, ℕ, ◌*◌, ◌^◌, ◌<◌, [], All, List, Some, None, get_or, length};
 ghost use Rattle.std.specs.Bool.{OnTrue, OnFalse};
 ghost use Rattle.guest_memory.specs.Memory.{Memory, SameRange};
 ghost use Rattle.sector_cache.specs.Disk.{Disk};
@@ -12,152 +11,26 @@ ghost use Rattle.mmio_window.specs.declared.stage.Stage.TheVariants.{Next};
 ghost use Rattle.chain.specs.declared.segment.Buffer.{Buffer};
 ghost use Rattle.block_device.specs.declared.hosting.Hosted.{Hosted};
 ghost use Rattle.block_device.specs.Extent.{sector_len};
-ghost use Rattle.block_device.specs.Flights.{AreHeld, AsksNoMore, HostedQueue, InFlight, IsLanding, IsLook, LooksOn, TagIsHeld, flight_in, free_tag, freed, given_up, is_any, operation_in, runs_in, taken_bits, unlimited};
+ghost use Rattle.block_device.specs.Flights.{AreHeld, AsksNoMore, HostedQueue, InFlight, IsLanding, IsLook, LooksOn, given_up, unlimited};
+ghost use Rattle.block_device.specs.Tags.{TagIsHeld, free_tag};
 ghost use Rattle.block_device.specs.Hosting.{HostsTo};
-ghost use Rattle.std.specs.Prelude.{List};
 
 use crate::device::{BlockDevice, REQUESTQ};
-use crate::hosting::{Flight, Hosted};
-use crate::operation::{Operation, Verdict};
-use chain::{Budget, Chain, Counts, Runs, Segment};
+use crate::hosting::Hosted;
+use crate::operation::Verdict;
+use crate::tags::{Tag, Tags, with_tag};
+use chain::{Budget, Chain};
 use guest_memory::GuestMemory;
-use mmio_window::{Stage, Window};
-use std::alloc::{AllocError, Allocator, Global};
-use std::marker::Model;
+use mmio_window::{Stage, Token, Window};
+use std::alloc::{Allocator, Global};
 
-/// How many operations of one disk may be in flight at most.
-pub const MOST_IN_FLIGHT: usize = 64;
-
-/// Room for one operation in flight, and for the runs of its bytes.
-#[derive(Drop)]
-struct Tag<A: Allocator = Global> {
-    flight: Option<Flight>,
-    // How many bytes the device may read of its chain, to be counted.
-    readable: u32,
-    runs: Box<Runs, A>,
-}
-
-impl<A: Allocator> Model for Tag<A> {
-    ghost use Rattle.std.specs.Prelude.{Option};
-    ghost use Rattle.block_device.specs.Flights.{InFlight, in_room};
-
-    ghost Value = { Option InFlight };
-
-    ghost view = { λ s. in_room s.flight s.runs.value };
-}
-
-impl<A: Allocator + Copy> Tag<A> {
-    // Room for one operation, and none in it.
-    fn free(alloc: A) -> Result<Tag<A>, AllocError>
-        ensures { IfOk result (λ tag. tag ≡ None) }
-    {
-        let runs = Box::new(alloc, Runs::new())?;
-        Ok(Tag {
-            flight: None,
-            readable: 0,
-            runs,
-        })
-    }
-}
-
-impl<A: Allocator> Tag<A> {
-    // Gives up the operation that is in it, if one is.
-    fn set_free(&mut self)
-        ensures { self.new ≡ None }
-    {
-        self.flight = None;
-    }
-}
-
-/// The tags of one disk: as many as were chosen when it was made.
-#[derive(Drop)]
-pub struct Flights<A: Allocator = Global> {
-    tags: Vec<Tag<A>, A>,
-    // The tags in flight: bit n is set where tag n is taken.
-    taken: u64,
-    counts: Counts,
-}
-
-impl<A: Allocator> Model for Flights<A> {
-    ghost use Rattle.std.specs.Prelude.{◌≡◌, List, Option, ◌≤◌, length};
-    ghost use Rattle.block_device.specs.Flights.{InFlight, taken_bits};
-
-    ghost Value = { List (Option InFlight) };
-
-    ghost view = { λ f. f.tags.items };
-
-    ghost invariant = { λ f. (length f.tags.items ≤ 64) × (f.taken ≡ taken_bits f.tags.items) };
-}
-
-impl<A: Allocator + Copy> Flights<A> {
-    /// So many free tags.
-    pub fn new(alloc: A, depth: usize) -> Result<Flights<A>, AllocError>
-        requires { depth ≤ 64 }
-        ensures { IfOk result (λ flights. flights ≡ replicate depth None) }
-    {
-        let mut tags = Vec::new(alloc);
-        while tags.len() < depth {
-            tags.push(Tag::free(alloc)?)?;
-        }
-        Ok(Flights {
-            tags,
-            taken: 0,
-            counts: Counts::default(),
-        })
-    }
-}
-
-impl<A: Allocator> Flights<A> {
-    /// How many operations may be in flight.
-    pub fn depth(&self) -> usize
-        ensures value { result ≡ length self.now }
-        ensures most { result ≤ 64 }
-    {
-        self.tags.len()
-    }
-
-    /// Whether any operation is in flight.
-    pub fn is_busy(&self) -> bool
-        ensures { result ≡ is_any self.now }
-    {
-        self.taken != 0
-    }
-
-    /// The tags in flight: bit n is set where tag n is taken.
-    pub fn taken(&self) -> u64
-        ensures { result ≡ taken_bits self.now }
-    {
-        self.taken
-    }
-
-    /// What the host is asked to do by this tag.
-    pub fn operation(&self, tag: usize) -> Option<Operation>
-        ensures { result ≡ operation_in (get_or self.now tag None) }
-    {
-        let flight = self.tags.get(tag)?.flight.as_ref()?;
-        Some(flight.operation)
-    }
-
-    /// Where the bytes of this tag's operation lie: no runs where it is free.
-    pub fn runs(&self, tag: usize) -> &[Segment]
-        ensures { result.now ≡ runs_in (get_or self.now tag None) }
-    {
-        match self.tags.get(tag) {
-            Some(tag) if tag.flight.is_some() => tag.runs.as_slice(),
-            _ => &[],
-        }
-    }
-
-    /// What the chains that were in flight came to.
-    pub fn counts(&self) -> Counts {
-        self.counts
-    }
-}
+/// The tags of one disk in a window. How many bytes the device may read of each chain in flight is noted, to be counted.
+pub type Flights<A = Global> = Tags<Token, u32, A>;
 
 impl BlockDevice {
     /// Looks at the queue: serves chains that ask for nothing, and puts those that ask into free tags, until none is on offer
     /// or no tag is free. `room` is for the buffers of each chain.
-    #[tactic(auto, using(crate::proofs::Tags::looks_first, crate::proofs::Tags::fewer_behind))]
+    #[tactic(auto, using(crate::proofs::Looking::looks_first, crate::proofs::Looking::fewer_behind))]
     pub fn look<M: Allocator, A: Allocator>(
         &self,
         mem: &mut GuestMemory<M>,
@@ -207,10 +80,10 @@ impl BlockDevice {
         ensures range { SameRange mem.old mem.new }
         ensures sound { IsSound mem.new window.new }
     {
-        if !self.look_into(mem, window, stage, &mut flights.tags[tag], room) {
+        if !self.look_into(mem, window, stage, &mut flights.items[tag], room) {
             return false;
         }
-        flights.taken = with_tag(flights.taken, tag);
+        flights.taken = with_tag::<Token>(flights.taken, tag);
         true
     }
 
@@ -220,7 +93,7 @@ impl BlockDevice {
         mem: &mut GuestMemory<M>,
         window: &mut Window,
         stage: Stage,
-        tag: &mut Tag<A>,
+        tag: &mut Tag<Token, u32, A>,
         room: &mut Chain,
     ) -> bool
         requires sound { IsSound mem.old window.old }
@@ -241,7 +114,7 @@ impl BlockDevice {
                 // What it ensures: there are fewer than 2^32 bytes.
                 let _ = room.buffers();
                 tag.flight = Some(flight);
-                tag.readable = room.readable_len() as u32;
+                tag.note = room.readable_len() as u32;
                 true
             }
             Hosted::Done => false,
@@ -250,7 +123,7 @@ impl BlockDevice {
     }
 }
 
-impl<A: Allocator> Flights<A> {
+impl<A: Allocator> Tags<Token, u32, A> {
     /// Completes the operation of this tag by what came of it: its chain is given back, unless the device has asked to be reset
     /// meanwhile, and the tag is free. Answers false, and changes nothing, where no operation has this tag.
     pub fn land<M: Allocator>(
@@ -284,32 +157,6 @@ impl<A: Allocator> Flights<A> {
         true
     }
 
-    // Takes the operation of this tag out of it, and how many bytes of its chain the device may read: the tag is free.
-    #[inline(always)]
-    fn take(&mut self, tag: usize) -> Option<(Flight, u32)>
-        ensures found { option_map (λ out. out.0) result ≡ flight_in (get_or self.old tag None) }
-        ensures free { self.new ≡ set self.old tag None }
-    {
-        let found = self.tags.get_mut(tag)?;
-        let flight = found.flight.take()?;
-        self.taken = without_tag(self.taken, tag);
-        Some((flight, found.readable))
-    }
-
-    // The lowest free tag.
-    #[tactic(auto, using(crate::proofs::Bits::free_below, crate::proofs::Bits::free_nowhere))]
-    #[inline(always)]
-    fn lowest_free(&self) -> Option<usize>
-        ensures { result ≡ free_tag self.now }
-    {
-        let tag = self.taken.trailing_ones() as usize;
-        if tag < self.tags.len() {
-            Some(tag)
-        } else {
-            None
-        }
-    }
-
     // Counts a chain that was in flight.
     #[inline(always)]
     fn count(&mut self, readable: u32, written: u32)
@@ -330,23 +177,6 @@ impl<A: Allocator> Flights<A> {
         self.free_all();
         window.needs_reset();
     }
-
-    // Frees all tags.
-    fn free_all(&mut self)
-        ensures { self.new ≡ freed self.old }
-    {
-        free_each(self.tags.as_mut_slice());
-        self.taken = 0;
-    }
-}
-
-// Frees each of these tags.
-fn free_each<A: Allocator>(tags: &mut [Tag<A>])
-    ensures { tags.new ≡ freed tags.old }
-{
-    for tag in tags.iter_mut() {
-        tag.set_free();
-    }
 }
 
 // The stage of a look behind a chain that asked: the queue stands open.
@@ -355,26 +185,4 @@ fn behind_a_chain() -> Stage
     ensures { result ≡ Next }
 {
     Stage::Next
-}
-
-// A set of tags with this one in it as well.
-#[tactic(auto, using(crate::proofs::Bits::set_with))]
-#[inline(always)]
-fn with_tag(taken: u64, tag: usize) -> u64
-    requires { tag < 64 }
-    ensures { (tags : List (Option InFlight)) (here : InFlight) → tag < length tags → taken ≡ taken_bits tags →
-        result ≡ taken_bits (set tags tag (Some here)) }
-{
-    taken | 1 << tag
-}
-
-// A set of tags without this one.
-#[tactic(auto, using(crate::proofs::Bits::set_without))]
-#[inline(always)]
-fn without_tag(taken: u64, tag: usize) -> u64
-    requires { tag < 64 }
-    ensures { (tags : List (Option InFlight)) → tag < length tags → taken ≡ taken_bits tags →
-        result ≡ taken_bits (set tags tag None) }
-{
-    taken & !(1 << tag)
 }

@@ -24,9 +24,11 @@ use negotiation::{Features, Flags};
 use std::alloc::Allocator;
 
 /// A chain in flight: the host works on its operation. Its runs stand in the caller's room.
-#[derive(Debug, PartialEq, Eq, Drop)]
-pub struct Flight {
-    pub token: Token,
+#[derive(Drop)]
+pub struct Flight<T> {
+    /// By which its queue gives it back.
+    pub token: T,
+    /// What the host is asked to do.
     pub operation: Operation,
     /// The address of its status.
     pub status: u64,
@@ -35,10 +37,10 @@ pub struct Flight {
 }
 
 /// How a piece came out.
-#[derive(Debug, PartialEq, Eq, Drop)]
+#[derive(Drop)]
 pub enum Hosted {
     /// A chain is in flight.
-    Asks(Flight),
+    Asks(Flight<Token>),
     /// The budget is spent, and a chain is on offer.
     More,
     /// The service has ended.
@@ -100,9 +102,9 @@ impl BlockDevice {
     }
 }
 
-impl Flight {
+impl Flight<Token> {
     // A chain that asks for this, and is in flight from now on.
-    fn of(token: Token, operation: Operation, chain: &Chain) -> Flight
+    fn of(token: Token, operation: Operation, chain: &Chain) -> Flight<Token>
         requires { 0 < length (writable_of chain.now) }
         ensures token { result.token ≡ token }
         ensures operation { result.operation ≡ operation }

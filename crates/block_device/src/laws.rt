@@ -16,13 +16,15 @@ ghost use Rattle.mmio_window.specs.declared.stage.Stage.{Stage};
 ghost use Rattle.mmio_window.specs.Queue.{AreAhead, queue_kind};
 ghost use Rattle.mmio_window.specs.Window.{WindowState, queue_at};
 ghost use Rattle.block_device.specs.declared.device.BlockDevice.{BlockDevice};
+ghost use Rattle.mmio_window.specs.declared.queue.Token.{Token};
 ghost use Rattle.block_device.specs.declared.hosting.Flight.{Flight};
 ghost use Rattle.block_device.specs.declared.hosting.Hosted.{Hosted};
 ghost use Rattle.block_device.specs.declared.operation.Verdict.{Verdict};
 ghost use Rattle.block_device.specs.Device.{GivesBy, HasAnswer, block_device, exact_device};
 ghost use Rattle.block_device.specs.Durable.{Completion, IsCommitted, IsUnwritten, KeepsWordIn, Medium, must_last};
 ghost use Rattle.block_device.specs.Extent.{SameSectors};
-ghost use Rattle.block_device.specs.Flights.{HostedQueue, InFlight, IsLanding, LooksAt, tokens_of};
+ghost use Rattle.block_device.specs.Flights.{HostedQueue, InFlight, IsLanding, LooksAt};
+ghost use Rattle.block_device.specs.Tags.{tokens_of};
 ghost use Rattle.block_device.specs.Hosting.{CompletesIn, FlightOutlasts, HonestHostServes, HostsTo, SameLook};
 ghost use Rattle.block_device.specs.Outcome.{Completes, Ends};
 ghost use Rattle.block_device.specs.Touching.{device_over, sectors_of_chains, seen_chain, seen_site};
@@ -116,7 +118,7 @@ pub fn what_lands_is_gone()
 
 /// And so does a completion by one verdict.
 pub fn one_completion()
-    ensures { (flight : Flight) (verdict : Verdict) (old m n : Memory) (before v w : WindowState)
+    ensures { (flight : Flight Token) (verdict : Verdict) (old m n : Memory) (before v w : WindowState)
         → CompletesIn flight verdict old m before v → CompletesIn flight verdict old n before w
         → (m ≡ n) × (v ≡ w) }
 {}

@@ -3,8 +3,9 @@
 //! `header` is read and `request` judges it, as `segments` does with those of a WRITE_ZEROES. `transfer` moves sectors,
 //! those of an OUT out of its `payload`, `zeroes` zeroes them, and `answer` goes from a header to the status byte.
 //! `cached` serves a chain over the cache of an image, and `serve` a queue of them, and tells the window. `on_host` and
-//! `hosting` do so where the host has the disk, by what `operation` tells it, and `flights` keeps what is in flight. The
-//! caller is the board, which hands in the guest's memory, the device's window and the cache over the image.
+//! `hosting` do so where the host has the disk, by what `operation` tells it. `tags` keep what is in flight of such a disk, and
+//! `flights` has those of a window. The caller is the board, which hands in the guest's memory, the device's window and the
+//! cache over the image.
 #![tactic(auto)]
 
 mod answer;
@@ -21,12 +22,13 @@ mod payload;
 mod request;
 mod segments;
 mod serve;
+mod tags;
 mod transfer;
 mod zeroes;
 
 pub use device::{BlockDevice, REQUESTQ};
 pub use extent::Extent;
-pub use flights::{Flights, MOST_IN_FLIGHT};
+pub use flights::Flights;
 pub use header::{HEADER_LEN, Header};
 pub use hosting::{Flight, Hosted};
 pub use laws::{
@@ -40,4 +42,5 @@ pub use operation::{HostEvent, Operation, OperationKind, Verdict};
 pub use request::{Headed, Request, RequestStatus};
 pub use segments::{MOST_SEGMENT_BYTES, Segments, WriteZeroesSegment, are_segments};
 pub use serve::Piece;
+pub use tags::{MOST_IN_FLIGHT, Tag, Tags, with_tag};
 pub use transfer::Done;

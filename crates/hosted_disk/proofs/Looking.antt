@@ -7,8 +7,9 @@ use Rattle.mmio_window.specs.declared.stage.Stage.TheVariants.{First, Next}
 use Rattle.mmio_window.specs.Window.{queue_at}
 use Rattle.block_device.specs.declared.device.BlockDevice.{BlockDevice}
 use Rattle.block_device.specs.declared.operation.Verdict.{Verdict}
-use Rattle.block_device.specs.Flights.{AsksNext, AsksNoMore, HostedQueue, InFlight, IsGivenIn, IsLanding, IsLook, LandsBy, LookEnds, LooksFrom, free_tag}
-use Rattle.block_device.proofs.Held.{is_free}
+use Rattle.block_device.specs.Flights.{AsksNext, AsksNoMore, HostedQueue, InFlight, IsGivenIn, IsLanding, IsLook, LandsBy, LookEnds, LooksFrom}
+use Rattle.block_device.specs.Tags.{free_tag}
+use Rattle.block_device.proofs.Freeing.{is_free}
 use Rattle.hosted_disk.specs.Disk.{LooksUnless}
 
 -- It holds of what stays, of two steps if of each, of a chain that asks, and of the end of a look.

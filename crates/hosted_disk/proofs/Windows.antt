@@ -10,6 +10,7 @@ use Rattle.chain.specs.Service.{Spent}
 use Rattle.mmio_window.specs.declared.device_kind.DeviceKind.{DeviceKind}
 use Rattle.mmio_window.specs.declared.queue.Queue.{Queue}
 use Rattle.mmio_window.specs.declared.queue_registers.QueueRegisters.{QueueRegisters}
+use Rattle.mmio_window.specs.declared.queue.Token.{Token}
 use Rattle.mmio_window.specs.declared.stage.Stage.{Stage}
 use Rattle.mmio_window.specs.DeviceKind.{queue_of}
 use Rattle.mmio_window.specs.Serving.{after_service}
@@ -61,7 +62,7 @@ KeepsDevice-hosts device stage budget found Done old new before after buffers ru
     KeepsDevice-served (unasked_device device) budget 0 stage found progress.Done old new before after _ _ h
 
 -- after a completion
-KeepsDevice-completes : (flight : Flight) (answer : Verdict) (old new : Memory) (before after : WindowState)
+KeepsDevice-completes : (flight : Flight Token) (answer : Verdict) (old new : Memory) (before after : WindowState)
     → CompletesIn flight answer old new before after → KeepsDevice before after
 KeepsDevice-completes flight answer old new before after h =
     at before _ after h.window (spent_kept h.wanted before _)

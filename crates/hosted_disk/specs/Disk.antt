@@ -6,7 +6,8 @@ use Rattle.mmio_window.specs.Ready.{may_stop_queues}
 use Rattle.mmio_window.specs.Serving.{NothingHappens}
 use Rattle.mmio_window.specs.Window.{WindowState}
 use Rattle.block_device.specs.declared.device.BlockDevice.{BlockDevice}
-use Rattle.block_device.specs.Flights.{AreHeld, HostedQueue, InFlight, IsLook, is_any}
+use Rattle.block_device.specs.Flights.{AreHeld, HostedQueue, InFlight, IsLook}
+use Rattle.block_device.specs.Tags.{is_any}
 
 pub record HostedDisk : Type 0 where
   pub device : BlockDevice

@@ -6,7 +6,8 @@ use Rattle.block_device.specs.declared.device.BlockDevice.{BlockDevice}
 use Rattle.block_device.specs.declared.operation.HostEvent.{HostEvent}
 use Rattle.block_device.specs.declared.operation.HostEvent.TheVariants.{Complete, Drop, Hold, Release}
 use Rattle.block_device.specs.declared.operation.Verdict.{Verdict}
-use Rattle.block_device.specs.Flights.{HostedQueue, IsLanding, IsLook, given_up, is_any}
+use Rattle.block_device.specs.Flights.{HostedQueue, IsLanding, IsLook, given_up}
+use Rattle.block_device.specs.Tags.{is_any}
 use Rattle.hosted_disk.specs.Disk.{HostedDisk, LooksUnless, queue_of}
 
 -- Whether there is something to do: an operation has the tag, anything is in flight, the queue isn't on hold, or it is.

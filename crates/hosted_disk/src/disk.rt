@@ -5,7 +5,8 @@ ghost use Rattle.std.specs.Bool.{OnTrue, OnFalse};
 ghost use Rattle.guest_memory.specs.Memory.{Memory, SameRange};
 ghost use Rattle.mmio_window.specs.Soundness.{IsSound};
 ghost use Rattle.block_device.specs.Extent.{sector_len};
-ghost use Rattle.block_device.specs.Flights.{IsLanding, given_up, is_any};
+ghost use Rattle.block_device.specs.Flights.{IsLanding, given_up};
+ghost use Rattle.block_device.specs.Tags.{is_any};
 ghost use Rattle.hosted_disk.specs.Disk.{HoldsFlights, LooksAtQueue, ServesDisk, fresh_disk, must_wait, queue_of};
 ghost use Rattle.hosted_disk.specs.Told.{DoesAsTold, has_effect};
 

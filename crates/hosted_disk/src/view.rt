@@ -3,7 +3,7 @@
 ghost use Rattle.std.specs.Prelude.{◌≡◌, get_or, None};
 ghost use Rattle.negotiation.specs.Features.{feature_bits};
 ghost use Rattle.block_device.specs.Config.{block_features, config_of};
-ghost use Rattle.block_device.specs.Flights.{is_any, operation_in, runs_in, taken_bits};
+ghost use Rattle.block_device.specs.Tags.{is_any, operation_in, runs_in, taken_bits};
 
 use crate::disk::HostedDisk;
 use block_device::{BlockDevice, Operation};

@@ -102,7 +102,7 @@ answer_still device old read new readable buffers len good reads copy h =
     does_still (hosted_device device) old new buffers tt tt len true good.inside
     (answer_served device false old read new readable buffers len reads copy h)
 
-pub completed_still : (flight : Flight) (verdict : Verdict) (old new : Sightings) (len : ℕ)
+pub completed_still : {T : Type 0} (flight : Flight T) (verdict : Verdict) (old new : Sightings) (len : ℕ)
     → IsCompleted false old new flight.status flight.writable flight.operation.kind verdict len
     → hosting.IsCompleted flight verdict (memory old) (memory new) len
 completed_still flight verdict old new len h = record {

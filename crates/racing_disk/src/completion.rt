@@ -5,8 +5,7 @@ ghost use Rattle.guest_memory.specs.Memory.{Inside};
 ghost use Rattle.shared_memory.specs.Sightings.{memory};
 ghost use Rattle.racing_disk.specs.Completing.{IsGivenBack};
 
-use crate::operation::Flight;
-use block_device::{Done, Verdict};
+use block_device::{Done, Flight, Verdict};
 use racing_service::RacingQueue;
 use shared_memory::Shared;
 

@@ -57,8 +57,8 @@ pub fn an_answered_chain_is_served()
 {}
 
 /// A chain of a guest that stands still is completed as `IsCompleted` of block_device says.
-pub fn a_guest_that_stands_still_is_completed()
-    ensures { (flight : Flight) (verdict : Verdict) (old new : Sightings) (len : ℕ)
+pub fn a_guest_that_stands_still_is_completed<T>()
+    ensures { (flight : Flight T) (verdict : Verdict) (old new : Sightings) (len : ℕ)
         → IsCompleted false old new flight.status flight.writable flight.operation.kind verdict len
         → hosting.IsCompleted flight verdict (memory old) (memory new) len }
 {}

@@ -24,4 +24,3 @@ pub use laws::{
     an_answered_chain_is_served, what_is_zeroed_lies_on_the_disk,
 };
 pub use look::Found;
-pub use operation::Flight;

@@ -11,8 +11,7 @@ ghost use Rattle.racing_service.specs.Service.{IsRacingService, standing_at};
 ghost use Rattle.racing_disk.specs.Looking.{FindsOneThatAsks, FindsOneToAnswer};
 
 use crate::disk::RacingDisk;
-use crate::operation::Flight;
-use block_device::Request;
+use block_device::{Flight, Request};
 use chain::{Budget, Chain, Runs};
 use racing_ring::Room;
 use racing_service::{Limits, Outcome, RacingQueue, Refused, Stage, serve};

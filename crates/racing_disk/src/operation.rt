@@ -9,22 +9,9 @@ ghost use Rattle.block_device.specs.Operation.{LiesInside, operation_of, runs_by
 ghost use Rattle.racing_disk.specs.Telling.{HasStatus, IsLeft, WasLeft};
 
 use crate::disk::RacingDisk;
-use block_device::{Operation, Request};
+use block_device::{Flight, Request};
 use chain::{Chain, Runs};
 use racing_service::RacingQueue;
-
-/// A chain in flight: the host works on its operation. Its runs stand in the caller's room.
-#[derive(Drop)]
-pub struct Flight<T> {
-    /// By which its queue gives it back.
-    pub token: T,
-    /// What the host is asked to do.
-    pub operation: Operation,
-    /// The address of its status.
-    pub status: u64,
-    /// How many bytes of the chain the device may write; the last one is the status.
-    pub writable: u32,
-}
 
 impl RacingDisk {
     /// Leaves the chain that was taken last in flight, whose request asks for the disk. `runs` has then where the bytes of its

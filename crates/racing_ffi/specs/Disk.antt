@@ -7,7 +7,7 @@ use Rattle.block_device.specs.Operation.{LiesInside}
 use Rattle.c_values.specs.declared.operation.Operation.{Operation}
 use Rattle.c_values.specs.declared.operation.Run.{Run}
 use Rattle.c_values.specs.Operation.{told_operation, told_runs}
-use Rattle.racing_hosted_disk.specs.Tags.{operation_in, runs_in}
+use Rattle.block_device.specs.Tags.{operation_in, runs_in}
 use Rattle.racing_session.specs.Session.{IsMemoryOf, RacingSession, in_flight}
 
 -- what is in flight with a tag, and where its bytes lie

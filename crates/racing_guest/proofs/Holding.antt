@@ -1,7 +1,7 @@
 -- What is in flight is held wherever the memory lies in the same range and the queue stays; and it is where nothing is.
-use Rattle.std.proofs.Common.{◌≡◌, ◌∙◌, ℕ, zero, suc, Bool, true, false, cond, List, [], ◌∷◌, Option, Some, None, get_or, replicate, refl, sym, ap, subst, arith}
-use Rattle.std.specs.Prelude.{◌&&◌, All, IfSome, sum_by}
-use Rattle.std.proofs.lemmas.List.Elements.{All-cons, All-head, All-nil, All-tail}
+use Rattle.std.proofs.Common.{◌≡◌, ◌∙◌, ℕ, zero, suc, Bool, true, false, cond, List, [], ◌∷◌, Option, Some, None, get_or, replicate, refl, sym, ap, subst}
+use Rattle.std.specs.Prelude.{◌&&◌, All, IfSome}
+use Rattle.std.proofs.lemmas.List.Elements.{All-head, All-tail}
 use Rattle.guest_memory.specs.Memory.{Memory, SameRange}
 use Rattle.chain.specs.declared.fault.Fault.{Fault}
 use Rattle.negotiation.specs.Negotiation.{is_live, with_needs_reset}
@@ -18,10 +18,12 @@ use Rattle.mmio_window.proofs.ReadyLemmas.{ready_queue_outlasts}
 use Rattle.mmio_window.proofs.Soundness.{sound_for_the_range}
 use Rattle.block_device.specs.declared.operation.Operation.{Operation}
 use Rattle.block_device.specs.Operation.{LiesInside}
-use Rattle.racing_service.specs.Flights.{AreAhead, TagFits, tag_places}
+use Rattle.racing_service.specs.Flights.{AreAhead}
 use Rattle.racing_hosted_disk.specs.Disk.{HoldsFlights, RacingHostedDisk}
-use Rattle.racing_hosted_disk.specs.Tags.{InFlight, TagIsHeld, freed, is_any, operation_in, runs_in, tokens_of}
-use Rattle.racing_hosted_disk.proofs.Holding.{all_same}
+use Rattle.block_device.specs.Tags.{InFlight, TagIsHeld, freed, is_any, operation_in, runs_in, tokens_of}
+use Rattle.block_device.proofs.Freeing.{none_freed, none_in_flight}
+use Rattle.block_device.proofs.Holding.{all_same, none_held}
+use Rattle.racing_hosted_disk.proofs.Telling as telling
 use Rattle.racing_guest.specs.Guest.{IsSoundGuest, RacingGuest}
 use Rattle.racing_guest.specs.Block.{IsSoundBlock, RacingBlock, must_wait}
 
@@ -33,36 +35,9 @@ Ahead tags queue = AreAhead entry_of Fits ahead_of queue (tokens_of tags)
 
 -- ---- nothing is in flight
 
-none_held : (capacity : ℕ) (m : Memory) (tags : Tags) → is_any tags ≡ false → All (TagIsHeld capacity m) tags
-none_held capacity m [] none = All-nil (TagIsHeld capacity m)
-none_held capacity m (None ∷ tags) none =
-    All-cons (TagIsHeld capacity m) None tags tt (none_held capacity m tags none)
-none_held capacity m (Some here ∷ tags) none = absurd (cc none)
-
-none_fit : (queue : Queue) (tags : Tags) → is_any tags ≡ false → All (TagFits Fits queue) (tokens_of tags)
-none_fit queue [] none = All-nil (TagFits Fits queue)
-none_fit queue (None ∷ tags) none = All-cons (TagFits Fits queue) None (tokens_of tags) tt (none_fit queue tags none)
-none_fit queue (Some here ∷ tags) none = absurd (cc none)
-
-no_places : (tags : Tags) → is_any tags ≡ false → sum_by (tag_places entry_of) (tokens_of tags) ≡ 0
-no_places [] none = refl
-no_places (None ∷ tags) none = no_places tags none
-no_places (Some here ∷ tags) none = absurd (cc none)
-
 none_ahead : (found : Option Queue) (tags : Tags) → is_any tags ≡ false → IfSome found (Ahead tags)
 none_ahead None tags none = tt
-none_ahead (Some queue) tags none = record {
-  each = none_fit queue tags none;
-  places = let zero = no_places tags none in omega (arith, zero);
-}
-
-none_taken : (depth : ℕ) → is_any {A = InFlight Token} (replicate depth None) ≡ false
-none_taken zero = refl
-none_taken (suc depth) = none_taken depth
-
-none_freed : (tags : Tags) → is_any (freed tags) ≡ false
-none_freed [] = refl
-none_freed (tag ∷ tags) = none_freed tags
+none_ahead (Some queue) tags none = telling.none_ahead entry_of Fits ahead_of queue tags none
 
 -- so a block device is sound whose window is
 pub idle_sound : (m : Memory) (w : WindowState) (disk : RacingHostedDisk Token) → is_any disk.tags ≡ false → IsSound m w
@@ -75,7 +50,7 @@ idle_sound m w disk none sound = record {
 
 pub fresh_sound : (m : Memory) (w : WindowState) (disk : RacingHostedDisk Token) (depth : ℕ)
     → disk.tags ≡ replicate depth None → IsSound m w → IsSoundBlock m (record { window = w; disk = disk })
-fresh_sound m w disk depth is sound = idle_sound m w disk (ap (λ (t : Tags). is_any t) is ∙ none_taken depth) sound
+fresh_sound m w disk depth is sound = idle_sound m w disk (ap (λ (t : Tags). is_any t) is ∙ none_in_flight _ depth) sound
 
 pub freed_sound : (m : Memory) (w : WindowState) (disk : RacingHostedDisk Token) (tags : Tags) → disk.tags ≡ freed tags
     → IsSound m w → IsSoundBlock m (record { window = w; disk = disk })

@@ -25,7 +25,7 @@ use Rattle.racing_hosted_disk.specs.declared.look.LookEnding.TheVariants.{Served
 use Rattle.racing_hosted_disk.specs.declared.look.LookLimits.{LookLimits}
 use Rattle.racing_hosted_disk.specs.Disk.{RacingHostedDisk}
 use Rattle.racing_hosted_disk.specs.Looking.{AreLooks, AsksIn, EndsLooks, FindsIn, Look, LooksUnless, Place, ServesDisk, ServesLooks, stage_behind}
-use Rattle.racing_hosted_disk.specs.Tags.{InFlight}
+use Rattle.block_device.specs.Tags.{InFlight}
 use Rattle.racing_hosted_disk.specs.Told.{DoesAsTold, Lands, QueueTold}
 
 -- ---- each move

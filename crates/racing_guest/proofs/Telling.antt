@@ -25,7 +25,7 @@ use Rattle.racing_hosted_disk.specs.declared.look.LookLimits.{LookLimits}
 use Rattle.racing_hosted_disk.specs.Disk.{HoldsFlights, RacingHostedDisk}
 use Rattle.racing_hosted_disk.specs.Looking.{Place, ServesDisk}
 use Rattle.racing_hosted_disk.specs.Told.{DoesAsTold, told_unserved}
-use Rattle.racing_hosted_disk.proofs.Holding.{all_set}
+use Rattle.block_device.proofs.Holding.{all_set}
 use Rattle.racing_guest.specs.Block.{IsSoundBlock, RacingBlock, block_register, fault_met, must_wait, reset_by}
 use Rattle.racing_guest.proofs.Holding.{freed_sound, if_live, served_sound, written_sound}
 use Rattle.racing_guest.proofs.Making.{disk_made, told_made}

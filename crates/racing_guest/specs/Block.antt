@@ -31,7 +31,7 @@ use Rattle.racing_hosted_disk.specs.declared.look.LookEnding.TheVariants.{Served
 use Rattle.racing_hosted_disk.specs.declared.look.LookLimits.{LookLimits}
 use Rattle.racing_hosted_disk.specs.Disk.{RacingHostedDisk, fresh_disk}
 use Rattle.racing_hosted_disk.specs.Looking.{ServesDisk, progress_of}
-use Rattle.racing_hosted_disk.specs.Tags.{TagIsHeld, is_any, tokens_of}
+use Rattle.block_device.specs.Tags.{TagIsHeld, is_any, tokens_of}
 use Rattle.racing_hosted_disk.specs.Told.{DoesAsTold, told_unserved}
 use Rattle.racing_guest.specs.declared.reply.GuestQueue.TheVariants as queues
 use Rattle.racing_guest.specs.declared.reply.Reply.{Reply}

@@ -15,7 +15,7 @@ ghost use Rattle.racing_window.specs.Laws.{LeavesQueue};
 ghost use Rattle.racing_window.specs.Queue.{racing_queue};
 ghost use Rattle.racing_hosted_disk.specs.Laws.{IsAskedAlone, IsToldOf, moment_asked};
 ghost use Rattle.racing_hosted_disk.specs.Looking.{AsksIn};
-ghost use Rattle.racing_hosted_disk.specs.Tags.{InFlight, operation_in, runs_in};
+ghost use Rattle.block_device.specs.Tags.{InFlight, operation_in, runs_in};
 ghost use Rattle.racing_guest.specs.Block.{IsSoundBlock, RacingBlock};
 ghost use Rattle.racing_guest.specs.Guest.{IsSoundGuest, RacingGuest};
 

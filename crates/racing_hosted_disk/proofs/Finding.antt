@@ -1,9 +1,10 @@
 -- What a look leaves in the tag that it was made for.
-use Rattle.std.proofs.Common.{ℕ, Bool, Option, Some, None, List}
+use Rattle.std.proofs.Common.{◌≡◌, ℕ, ◌-◌, ◌<◌, Bool, Option, Some, None, List, drop, length, length-drop, ap, arith}
 use Rattle.std.specs.Prelude.{IfNone, IfSome}
 use Rattle.guest_memory.specs.Memory.{Inside, Memory}
 use Rattle.chain.specs.declared.segment.Buffer.{Buffer}
 use Rattle.chain.specs.declared.segment.Segment.{Segment}
+use Rattle.chain.specs.Bytes.{writable_of}
 use Rattle.chain.specs.Service.{Entry}
 use Rattle.block_device.specs.declared.device.BlockDevice.{BlockDevice}
 use Rattle.block_device.specs.Operation.{LiesInside}
@@ -11,11 +12,17 @@ use Rattle.racing_service.specs.Flights.{FlightLaws, TagFits}
 use Rattle.racing_service.specs.declared.stage.Stage.{Stage}
 use Rattle.racing_service.specs.Queue.{RacingKind}
 use Rattle.racing_service.specs.Service.{Standing}
-use Rattle.racing_disk.specs.declared.operation.Flight.{Flight}
+use Rattle.block_device.specs.declared.hosting.Flight.{Flight}
 use Rattle.racing_disk.specs.Looking.{FindsOneThatAsks, FindsOneToAnswer}
+use Rattle.racing_disk.specs.Telling.{HasStatus}
 use Rattle.racing_hosted_disk.specs.Looking.{FindsIn}
-use Rattle.racing_hosted_disk.specs.Tags.{TagIsHeld, in_room, token_in}
-use Rattle.racing_hosted_disk.proofs.Holding.{some_writable}
+use Rattle.block_device.specs.Tags.{TagIsHeld, in_room, token_in}
+
+-- a chain that has a place for its status has some writable byte
+some_writable : (buffers : List Buffer) (status writable : ℕ) → HasStatus buffers status writable → 0 < writable
+some_writable buffers status writable has =
+    let one : length (drop (writable - 1) (writable_of buffers)) ≡ 1 = ap (λ (l : List ℕ). length l) has.last in
+    omega (arith, one, has.long, length-drop (writable - 1) (writable_of buffers))
 
 module _ {Ring Token : Type 0} (kind : RacingKind Ring) (entry_of : Token → Entry)
     (IsTaken : Ring → Token → Type 0) (device : BlockDevice) (races : Bool)

@@ -23,8 +23,8 @@ use Rattle.racing_service.proofs.Standing.{does_range}
 use Rattle.racing_disk.specs.Looking.{FindsOneThatAsks, FindsOneToAnswer, FindsRequest}
 use Rattle.racing_disk.specs.Telling.{IsLeft}
 use Rattle.racing_hosted_disk.specs.Looking.{FindsIn}
-use Rattle.racing_hosted_disk.specs.Tags.{InFlight, free_tag, token_in, tokens_of}
-use Rattle.racing_hosted_disk.proofs.Freeing.{is_free, token_at, tokens_set, tokens_size}
+use Rattle.block_device.specs.Tags.{InFlight, free_tag, token_in, tokens_of}
+use Rattle.block_device.proofs.Freeing.{is_free, token_at, tokens_set, tokens_size}
 
 module _ {Ring Token : Type 0} (kind : RacingKind Ring) (entry_of : Token → Entry)
     (IsAhead Fits : Ring → Token → Type 0) (ahead_of : Ring → ℕ)

@@ -18,14 +18,14 @@ use Rattle.racing_service.specs.Queue.{RacingKind}
 use Rattle.racing_service.specs.Service.{standing_at}
 use Rattle.racing_service.proofs.Flights.{ahead_in, ahead_landed, ahead_stays, closing_keeps}
 use Rattle.racing_service.proofs.Standing.{scattered_range}
-use Rattle.racing_disk.specs.declared.operation.Flight.{Flight}
+use Rattle.block_device.specs.declared.hosting.Flight.{Flight}
 use Rattle.racing_disk.specs.Completing.{IsGivenBack}
 use Rattle.racing_hosted_disk.specs.Disk.{HoldsFlights, RacingHostedDisk}
 use Rattle.racing_hosted_disk.specs.Looking.{Place, place_at}
-use Rattle.racing_hosted_disk.specs.Tags.{InFlight, TagIsHeld, flight_in, token_in, tokens_of}
+use Rattle.block_device.specs.Tags.{InFlight, TagIsHeld, flight_in, token_in, tokens_of}
 use Rattle.racing_hosted_disk.specs.Told.{Lands}
-use Rattle.racing_hosted_disk.proofs.Freeing.{is_there, token_at, tokens_set, tokens_size}
-use Rattle.racing_hosted_disk.proofs.Holding.{all_same, all_set}
+use Rattle.block_device.proofs.Freeing.{is_there, token_at, tokens_set, tokens_size}
+use Rattle.block_device.proofs.Holding.{all_same, all_set}
 
 -- a tag that is free stays so
 none_in : {T : Type 0} (tag : Option (InFlight T)) → None ≡ flight_in tag → tag ≡ None

@@ -1,6 +1,3 @@
-pub mod Bits
-pub mod Freeing
-pub mod Holding
 pub mod Going
 pub mod Looks
 pub mod Finding

@@ -15,7 +15,7 @@ use Rattle.racing_service.specs.Service.{IsClosing, IsRacingService}
 use Rattle.racing_hosted_disk.specs.declared.look.LookEnding.TheVariants.{Served, Full, Limited}
 use Rattle.racing_hosted_disk.specs.declared.look.LookLimits.{LookLimits}
 use Rattle.racing_hosted_disk.specs.Looking.{AreLooks, HasLooked, Look, LooksOn, Place, any_wanted, place_at, stage_behind}
-use Rattle.racing_hosted_disk.specs.Tags.{InFlight, free_tag}
+use Rattle.block_device.specs.Tags.{InFlight, free_tag}
 
 module _ {Ring T : Type 0} (queues : RacingKind Ring) (entry_of : T → Entry) (IsTaken : Ring → T → Type 0)
     (device : BlockDevice) (races : Bool) (limits : LookLimits) (stable : Bool) where

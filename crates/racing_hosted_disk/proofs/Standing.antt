@@ -25,7 +25,7 @@ use Rattle.racing_service.proofs.Standing.{one_still}
 use Rattle.racing_disk.proofs.Standing.{copy_still, left_still, runs_still, told_still}
 use Rattle.racing_hosted_disk.specs.Laws.{IsAskedAlone, IsToldOf, LandsAsOne, moment_asked}
 use Rattle.racing_hosted_disk.specs.Looking.{AsksIn, Place}
-use Rattle.racing_hosted_disk.specs.Tags.{InFlight}
+use Rattle.block_device.specs.Tags.{InFlight}
 use Rattle.racing_hosted_disk.specs.Told.{Lands}
 
 module _ {Ring T : Type 0} (kind : RacingKind Ring) (IsSound : Memory → Ring → Type 0) (stands : StandsStill kind IsSound)

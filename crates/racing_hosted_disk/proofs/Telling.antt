@@ -1,6 +1,6 @@
 -- What the host says comes to what its definition says.
-use Rattle.std.proofs.Common.{◌≡◌, ◌∙◌, ℕ, zero, suc, ◌≤◌, Bool, true, false, Option, Some, None, List, [], ◌∷◌, get_or, set, refl, sym, ap, arith}
-use Rattle.std.specs.Prelude.{All, IfNone, IfSome, ◌||◌, replicate, sum_by}
+use Rattle.std.proofs.Common.{◌≡◌, ◌∙◌, ℕ, ◌≤◌, Bool, true, false, Option, Some, None, List, [], ◌∷◌, get_or, set, refl, sym, ap, arith}
+use Rattle.std.specs.Prelude.{All, IfNone, IfSome, ◌||◌, sum_by}
 use Rattle.std.proofs.lemmas.List.{set-get_or}
 use Rattle.std.proofs.lemmas.List.Sums.{sum_by-set}
 use Rattle.std.proofs.lemmas.List.Elements.{All-cons, All-nil, All-set}
@@ -10,7 +10,7 @@ use Rattle.shared_memory.specs.Sightings.{Sightings}
 use Rattle.block_device.specs.declared.operation.HostEvent.{HostEvent}
 use Rattle.block_device.specs.declared.operation.HostEvent.TheVariants.{Complete, Drop, Hold, Release}
 use Rattle.block_device.specs.declared.operation.Verdict.{Verdict}
-use Rattle.racing_service.specs.Flights.{TagFits, tag_places}
+use Rattle.racing_service.specs.Flights.{AreAhead, TagFits, tag_places}
 use Rattle.racing_service.specs.declared.stage.Stage.{Stage}
 use Rattle.racing_service.specs.declared.stage.Stage.TheVariants.{First, Again}
 use Rattle.racing_service.specs.Queue.{RacingKind}
@@ -20,49 +20,50 @@ use Rattle.racing_hosted_disk.specs.declared.look.LookLimits.{LookLimits}
 use Rattle.racing_hosted_disk.specs.declared.look.Served as outcome
 use Rattle.racing_hosted_disk.specs.Disk.{HoldsFlights, RacingHostedDisk, fresh_disk}
 use Rattle.racing_hosted_disk.specs.Looking.{HasLooked, LooksAtQueue, idle, place_at}
-use Rattle.racing_hosted_disk.specs.Tags.{InFlight, TagIsHeld, freed, tokens_of}
+use Rattle.block_device.specs.Tags.{InFlight, TagIsHeld, freed, is_any, tokens_of}
 use Rattle.racing_hosted_disk.specs.Told.{DoesAsTold, Lands, told_unserved}
-use Rattle.racing_hosted_disk.proofs.Freeing.{some_within, tokens_set}
+use Rattle.block_device.proofs.Freeing.{none_freed, none_in_flight, some_within, tokens_set}
+use Rattle.block_device.proofs.Holding.{none_held}
 
--- ---- nothing is held in free tags
+-- ---- where nothing is in flight all is held
 
 module _ {Ring Token : Type 0} (entry_of : Token → Entry) (Fits : Ring → Token → Type 0) (ahead_of : Ring → ℕ) where
-  none_held : (capacity : ℕ) (m : Memory) (tags : List (Option (InFlight Token)))
-      → All (TagIsHeld capacity m) (freed tags)
-  none_held capacity m [] = All-nil (TagIsHeld capacity m)
-  none_held capacity m (tag ∷ tags) =
-      All-cons (TagIsHeld capacity m) None (freed tags) tt (none_held capacity m tags)
+  none_fit : (queue : Ring) (tags : List (Option (InFlight Token))) → is_any tags ≡ false
+      → All (TagFits Fits queue) (tokens_of tags)
+  none_fit queue [] none = All-nil (TagFits Fits queue)
+  none_fit queue (None ∷ tags) none =
+      All-cons (TagFits Fits queue) None (tokens_of tags) tt (none_fit queue tags none)
+  none_fit queue (Some here ∷ tags) none = absurd (cc none)
 
-  none_fit : (queue : Ring) (tags : List (Option (InFlight Token))) → All (TagFits Fits queue) (tokens_of (freed tags))
-  none_fit queue [] = All-nil (TagFits Fits queue)
-  none_fit queue (tag ∷ tags) =
-      All-cons (TagFits Fits queue) None (tokens_of (freed tags)) tt (none_fit queue tags)
+  no_places : (tags : List (Option (InFlight Token))) → is_any tags ≡ false
+      → sum_by (tag_places entry_of) (tokens_of tags) ≡ 0
+  no_places [] none = refl
+  no_places (None ∷ tags) none = no_places tags none
+  no_places (Some here ∷ tags) none = absurd (cc none)
 
-  no_places : (tags : List (Option (InFlight Token))) → sum_by (tag_places entry_of) (tokens_of (freed tags)) ≡ 0
-  no_places [] = refl
-  no_places (tag ∷ tags) = no_places tags
+  pub none_ahead : (queue : Ring) (tags : List (Option (InFlight Token))) → is_any tags ≡ false
+      → AreAhead entry_of Fits ahead_of queue (tokens_of tags)
+  none_ahead queue tags none = record {
+    each = none_fit queue tags none;
+    places = let zero = no_places tags none in omega (arith, zero);
+  }
+
+  idle_holds : (m : Memory) (queue : Ring) (disk : RacingHostedDisk Token) → is_any disk.tags ≡ false
+      → HoldsFlights entry_of Fits ahead_of m queue disk
+  idle_holds m queue disk none = record {
+    each = none_held disk.device.extent.count m disk.tags none;
+    ahead = none_ahead queue disk.tags none;
+  }
 
   pub freed_holds : (m : Memory) (queue : Ring) (disk new : RacingHostedDisk Token)
       → new ≡ record disk { tags = freed disk.tags } → HoldsFlights entry_of Fits ahead_of m queue new
   freed_holds m queue disk new is =
-      rw is (record {
-        each = none_held disk.device.extent.count m disk.tags;
-        ahead = record {
-          each = none_fit queue disk.tags;
-          places = let none = no_places disk.tags in omega (arith, none);
-        };
-      })
-
-  free_tags : (depth : ℕ) → replicate depth None ≡ freed {A = InFlight Token} (replicate depth None)
-  free_tags zero = refl
-  free_tags (suc depth) = ap (λ (l : List (Option (InFlight Token))). None ∷ l) (free_tags depth)
+      rw is (idle_holds m queue (record disk { tags = freed disk.tags }) (none_freed disk.tags))
 
   pub fresh_holds : (sectors depth : ℕ) (read_only : Bool) (identity : List ℕ) (m : Memory) (queue : Ring)
       → HoldsFlights entry_of Fits ahead_of m queue (fresh_disk Token sectors read_only identity depth)
   fresh_holds sectors depth read_only identity m queue =
-      let disk = fresh_disk Token sectors read_only identity depth in
-      freed_holds m queue disk disk
-      (ap (λ (l : List (Option (InFlight Token))). record disk { tags = l }) (free_tags depth))
+      idle_holds m queue (fresh_disk Token sectors read_only identity depth) (none_in_flight _ depth)
 
   pub dropped_holds : (m : Memory) (queue : Ring) (disk new : RacingHostedDisk Token) (result : Option outcome.Served)
       → IfSome result (λ served. new ≡ record disk { tags = freed disk.tags }) → IfNone result (new ≡ disk)

@@ -5,7 +5,7 @@ use Rattle.guest_memory.specs.Memory.{Memory}
 use Rattle.chain.specs.Service.{Entry}
 use Rattle.block_device.specs.declared.device.BlockDevice.{BlockDevice}
 use Rattle.racing_service.specs.Flights.{AreAhead}
-use Rattle.racing_hosted_disk.specs.Tags.{InFlight, TagIsHeld, tokens_of}
+use Rattle.block_device.specs.Tags.{InFlight, TagIsHeld, tokens_of}
 
 pub record RacingHostedDisk (T : Type 0) : Type 0 where
   pub device : BlockDevice

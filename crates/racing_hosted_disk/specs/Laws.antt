@@ -23,7 +23,7 @@ use Rattle.racing_service.specs.Queue.{RacingKind}
 use Rattle.racing_service.specs.Service.{Standing}
 use Rattle.racing_disk.specs.Telling.{HasStatus, IsLeft}
 use Rattle.racing_hosted_disk.specs.Looking.{AsksIn}
-use Rattle.racing_hosted_disk.specs.Tags.{InFlight}
+use Rattle.block_device.specs.Tags.{InFlight}
 
 abbrev pub SplitToken : Type 0
 SplitToken = split_tokens.Token

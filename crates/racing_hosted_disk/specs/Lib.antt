@@ -1,4 +1,3 @@
-pub mod Tags
 pub mod Disk
 pub mod Looking
 pub mod Told

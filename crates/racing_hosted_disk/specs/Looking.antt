@@ -21,7 +21,7 @@ use Rattle.racing_hosted_disk.specs.declared.look.Served as outcome
 use Rattle.racing_hosted_disk.specs.declared.look.LookEnding.TheVariants.{Served, Full, Limited, Idle}
 use Rattle.racing_hosted_disk.specs.declared.look.LookLimits.{LookLimits}
 use Rattle.racing_hosted_disk.specs.Disk.{RacingHostedDisk}
-use Rattle.racing_hosted_disk.specs.Tags.{InFlight, free_tag}
+use Rattle.block_device.specs.Tags.{InFlight, free_tag}
 
 -- where a disk stands between two looks: its service, and its tags
 pub record Place (Ring T : Type 0) : Type 0 where

@@ -16,7 +16,7 @@ use Rattle.racing_hosted_disk.specs.declared.look.LookEnding.{LookEnding}
 use Rattle.racing_hosted_disk.specs.declared.look.LookLimits.{LookLimits}
 use Rattle.racing_hosted_disk.specs.Disk.{RacingHostedDisk}
 use Rattle.racing_hosted_disk.specs.Looking.{LooksUnless, Place, ServesLooks, StaysIdle, place_at}
-use Rattle.racing_hosted_disk.specs.Tags.{InFlight, freed, is_any}
+use Rattle.block_device.specs.Tags.{InFlight, freed, is_any}
 
 -- Whether there is something to do: an operation has the tag, anything is in flight, the queue isn't on hold, or it is.
 abbrev pub has_effect : {T : Type 0} → HostEvent → RacingHostedDisk T → Bool

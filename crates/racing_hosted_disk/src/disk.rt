@@ -4,8 +4,7 @@ ghost use Rattle.std.specs.Prelude.{◌≡◌, ◌*◌, ◌^◌, ◌<◌, ◌≤
 ghost use Rattle.block_device.specs.Extent.{sector_len};
 ghost use Rattle.racing_hosted_disk.specs.Disk.{fresh_disk};
 
-use crate::tags::Tags;
-use block_device::{BlockDevice, Extent};
+use block_device::{BlockDevice, Extent, Tags};
 use racing_disk::RacingDisk;
 use std::alloc::{AllocError, Allocator, Global};
 use std::marker::Model;
@@ -14,7 +13,7 @@ use std::marker::Model;
 #[derive(Drop)]
 pub struct RacingHostedDisk<T: Drop, A: Allocator = Global> {
     pub(crate) disk: RacingDisk,
-    pub(crate) tags: Tags<T, A>,
+    pub(crate) tags: Tags<T, (), A>,
     // Whether no further chain of its queue is taken.
     pub(crate) on_hold: bool,
 }

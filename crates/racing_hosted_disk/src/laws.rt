@@ -18,7 +18,7 @@ ghost use Rattle.racing_service.specs.Service.{Standing};
 ghost use Rattle.racing_hosted_disk.specs.Disk.{HoldsFlights, RacingHostedDisk, fresh_disk};
 ghost use Rattle.racing_hosted_disk.specs.Laws.{IsAskedAlone, IsToldOf, LandsAsOne, PackedToken, SplitToken, moment_asked, packed_entry, packed_taken, split_entry, split_taken};
 ghost use Rattle.racing_hosted_disk.specs.Looking.{AsksIn, Place};
-ghost use Rattle.racing_hosted_disk.specs.Tags.{InFlight};
+ghost use Rattle.block_device.specs.Tags.{InFlight};
 ghost use Rattle.racing_hosted_disk.specs.Told.{Lands, told_unserved};
 
 use racing_service::KeepsFlights;

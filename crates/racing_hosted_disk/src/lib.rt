@@ -7,7 +7,6 @@ mod disk;
 mod laws;
 mod look;
 mod step;
-mod tags;
 mod told;
 mod unserved;
 mod view;

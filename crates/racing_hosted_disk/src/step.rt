@@ -8,9 +8,9 @@ ghost use Rattle.block_device.specs.Hosting.{hosted_device};
 ghost use Rattle.racing_service.specs.Flights.{AreAhead, TagFits};
 ghost use Rattle.racing_service.specs.Service.{IsRacingService, standing_at};
 ghost use Rattle.racing_hosted_disk.specs.Looking.{FindsIn, LooksOn, place_at};
-ghost use Rattle.racing_hosted_disk.specs.Tags.{InFlight, TagIsHeld, free_tag, token_in, tokens_of};
+ghost use Rattle.block_device.specs.Tags.{InFlight, TagIsHeld, free_tag, token_in, tokens_of};
 
-use crate::tags::{Tag, Tags, with_tag};
+use block_device::{Tag, Tags, with_tag};
 use chain::{Budget, Chain};
 use racing_disk::{Found, RacingDisk};
 use racing_ring::Room;
@@ -30,7 +30,7 @@ pub(crate) struct Step {
 /// Looks for the next request. One that asks is put into this tag, which is the lowest free one.
 pub(crate) fn look_for<Q: KeepsFlights, M: Shared, A: Allocator>(
     disk: &mut RacingDisk,
-    tags: &mut Tags<Q::Token, A>,
+    tags: &mut Tags<Q::Token, (), A>,
     tag: usize,
     mem: &mut M,
     queue: &mut Q,
@@ -76,7 +76,7 @@ pub(crate) fn look_for<Q: KeepsFlights, M: Shared, A: Allocator>(
 // Looks for the next request. One that asks is put into this tag, which is free.
 fn look_into<Q: KeepsFlights, M: Shared, A: Allocator>(
     disk: &mut RacingDisk,
-    tag: &mut Tag<Q::Token, A>,
+    tag: &mut Tag<Q::Token, (), A>,
     mem: &mut M,
     queue: &mut Q,
     stage: Stage,

@@ -6,7 +6,7 @@ ghost use Rattle.guest_memory.specs.Memory.{SameRange};
 ghost use Rattle.shared_memory.specs.Sightings.{memory};
 ghost use Rattle.racing_hosted_disk.specs.Disk.{HoldsFlights};
 ghost use Rattle.racing_hosted_disk.specs.Looking.{idle, place_at};
-ghost use Rattle.racing_hosted_disk.specs.Tags.{freed, is_any};
+ghost use Rattle.block_device.specs.Tags.{freed, is_any};
 ghost use Rattle.racing_hosted_disk.specs.Told.{DoesAsTold, Lands, has_effect};
 
 use crate::disk::RacingHostedDisk;
@@ -93,7 +93,7 @@ impl<T: Drop, A: Allocator> RacingHostedDisk<T, A> {
         ensures lies { Q.LiesIn (memory (M.sightings mem.new)) queue.new }
         ensures held { HoldsFlights Q.entry_of Q.Fits Q.ahead_of (memory (M.sightings mem.new)) queue.new self.new }
     {
-        let flight = self.tags.take(tag as usize)?;
+        let (flight, _) = self.tags.take(tag as usize)?;
         complete(flight, mem, queue, verdict);
         Some(queue.close(mem))
     }

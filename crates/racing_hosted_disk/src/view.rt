@@ -1,7 +1,7 @@
 //! The disk, as its host and its driver see it.
 
 ghost use Rattle.std.specs.Prelude.{◌≡◌, get_or, None};
-ghost use Rattle.racing_hosted_disk.specs.Tags.{is_any, operation_in, runs_in, taken_bits};
+ghost use Rattle.block_device.specs.Tags.{is_any, operation_in, runs_in, taken_bits};
 
 use crate::disk::RacingHostedDisk;
 use block_device::{BlockDevice, Operation};

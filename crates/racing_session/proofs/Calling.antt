@@ -13,7 +13,7 @@ use Rattle.block_device.specs.declared.operation.HostEvent.{HostEvent}
 use Rattle.block_device.specs.declared.operation.Operation.{Operation}
 use Rattle.block_device.specs.Operation.{LiesInside}
 use Rattle.racing_hosted_disk.specs.declared.look.LookLimits.{LookLimits}
-use Rattle.racing_hosted_disk.specs.Tags.{operation_in, runs_in}
+use Rattle.block_device.specs.Tags.{operation_in, runs_in}
 use Rattle.output_queue.specs.Waiting.{Waiting}
 use Rattle.racing_guest.specs.declared.reply.GuestQueue.TheVariants as queue
 use Rattle.racing_guest.specs.declared.reply.GuestWindow.{GuestWindow}

@@ -9,7 +9,7 @@ use Rattle.shared_memory.specs.Sightings.{Sightings}
 use Rattle.racing_memory.specs.Past.{sightings_of}
 use Rattle.block_device.specs.declared.operation.HostEvent.{HostEvent}
 use Rattle.racing_hosted_disk.specs.declared.look.LookLimits.{LookLimits}
-use Rattle.racing_hosted_disk.specs.Tags.{taken_bits}
+use Rattle.block_device.specs.Tags.{taken_bits}
 use Rattle.output_queue.specs.Waiting.{Waiting, none_waiting}
 use Rattle.racing_guest.specs.declared.reply.GuestQueue.{GuestQueue}
 use Rattle.racing_guest.specs.declared.reply.GuestQueue.TheVariants as queue

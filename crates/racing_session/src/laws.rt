@@ -5,7 +5,7 @@ ghost use Rattle.guest_memory.specs.Memory.{Memory};
 ghost use Rattle.block_device.specs.declared.operation.HostEvent.{HostEvent};
 ghost use Rattle.block_device.specs.declared.operation.Operation.{Operation};
 ghost use Rattle.block_device.specs.Operation.{LiesInside};
-ghost use Rattle.racing_hosted_disk.specs.Tags.{operation_in, runs_in};
+ghost use Rattle.block_device.specs.Tags.{operation_in, runs_in};
 ghost use Rattle.racing_guest.specs.declared.reply.GuestQueue.{GuestQueue};
 ghost use Rattle.racing_guest.specs.declared.reply.GuestWindow.{GuestWindow};
 ghost use Rattle.racing_session.specs.declared.progress.Progress.{Progress};

@@ -2,7 +2,7 @@
 
 ghost use Rattle.std.specs.Prelude.{◌≡◌, None, get_or};
 ghost use Rattle.mmio_window.specs.Interrupts.{interrupt_bits};
-ghost use Rattle.racing_hosted_disk.specs.Tags.{operation_in, runs_in, taken_bits};
+ghost use Rattle.block_device.specs.Tags.{operation_in, runs_in, taken_bits};
 ghost use Rattle.racing_guest.specs.Guest.{register, window_of};
 
 use crate::block::RacingBlock;

@@ -4,7 +4,7 @@ ghost use Rattle.std.specs.Prelude.{◌≡◌, None, get_or, IfOk, IfErr, IfSome
 ghost use Rattle.guest_memory.specs.Memory.{Memory};
 ghost use Rattle.block_device.specs.Operation.{LiesInside};
 ghost use Rattle.block_device.specs.declared.operation.HostEvent.{HostEvent};
-ghost use Rattle.racing_hosted_disk.specs.Tags.{operation_in, runs_in};
+ghost use Rattle.block_device.specs.Tags.{operation_in, runs_in};
 ghost use Rattle.racing_hosted_disk.specs.Told.{has_effect};
 ghost use Rattle.racing_session.specs.declared.progress.Refusal.{Refusal};
 ghost use Rattle.racing_session.specs.Session.{IsMemoryOf, IsSaid, IsSoundSession, in_flight, waits_of};

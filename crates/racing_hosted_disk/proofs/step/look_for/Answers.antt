@@ -1,12 +1,12 @@
 use Rattle.std.proofs.Common.{◌≡◌, ◌∙◌, Some, sym, ap, subst, arith}
 use Rattle.std.specs.Prelude.{is_some}
-use Rattle.racing_hosted_disk.specs.Tags.{free_tag, tokens_of}
+use Rattle.block_device.specs.Tags.{free_tag, tokens_of}
 use Rattle.racing_service.specs.Service.{standing_at}
 use Rattle.racing_service.specs.Flights.{AreAhead}
 use Rattle.racing_service.proofs.Flights.{ahead_stays, service_keeps}
-use Rattle.racing_hosted_disk.proofs.Freeing.{entry_free, is_free, now_taken, set_free, still_free}
+use Rattle.block_device.proofs.Freeing.{entry_free, is_free, now_taken, set_free, still_free}
 use Rattle.racing_hosted_disk.proofs.Going.{taken_ahead}
-use Rattle.racing_hosted_disk.proofs.Holding.{all_set}
+use Rattle.block_device.proofs.Holding.{all_set}
 use Rattle.racing_hosted_disk.proofs.step.look_for.Goals as goal
 
 pub index_mut-room_of-requires : goal.index_mut-room_of-requires

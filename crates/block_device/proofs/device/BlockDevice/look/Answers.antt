@@ -2,7 +2,7 @@ use Rattle.std.proofs.Common.{sym, subst}
 use Rattle.guest_memory.proofs.Ranges.{same_trans}
 use Rattle.block_device.specs.Flights.{HostedQueue}
 use Rattle.block_device.proofs.Landing.{held_looked}
-use Rattle.block_device.proofs.Tags.{IsLooking, looks_full, looks_no_more, looks_on}
+use Rattle.block_device.proofs.Looking.{IsLooking, looks_full, looks_no_more, looks_on}
 use Rattle.block_device.proofs.device.BlockDevice.look.Goals as goal
 
 pub returns-then-not-look_for-clause-looks : goal.returns-then-not-look_for-clause-looks

@@ -1,9 +1,9 @@
 use Rattle.std.specs.Prelude.{◌-◌, All, length}
 use Rattle.guest_memory.specs.Memory.{SameRange}
 use Rattle.mmio_window.specs.Soundness.{IsSound}
-use Rattle.block_device.specs.Flights.{TagIsHeld}
+use Rattle.block_device.specs.Tags.{TagIsHeld}
 use Rattle.block_device.proofs.Bits.{first_free}
-use Rattle.block_device.proofs.Tags.{IsLooking}
+use Rattle.block_device.proofs.Looking.{IsLooking}
 use Rattle.block_device.proofs.device.BlockDevice.look.Given as goal
 
 abbrev pub invariant-loop-tag : goal.invariant-loop-tag

@@ -1,7 +1,7 @@
 use Rattle.std.proofs.Common.{false, refl, arith}
 use Rattle.chain.proofs.Directions.{len_of-le}
 use Rattle.mmio_window.specs.Window.{queue_at}
-use Rattle.block_device.proofs.Tags.{never_pauses}
+use Rattle.block_device.proofs.Looking.{never_pauses}
 use Rattle.block_device.proofs.Unasked.{any_disk}
 use Rattle.block_device.proofs.device.BlockDevice.look_into.Goals as goal
 

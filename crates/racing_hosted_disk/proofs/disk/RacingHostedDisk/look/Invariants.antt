@@ -4,7 +4,7 @@ use Rattle.shared_memory.specs.Sightings.{memory}
 use Rattle.racing_service.specs.Flights.{AreAhead}
 use Rattle.std.specs.Prelude.{All}
 use Rattle.racing_hosted_disk.specs.Looking.{place_at}
-use Rattle.racing_hosted_disk.specs.Tags.{TagIsHeld, tokens_of}
+use Rattle.block_device.specs.Tags.{TagIsHeld, tokens_of}
 use Rattle.racing_hosted_disk.proofs.Looks.{IsLooking}
 use Rattle.racing_hosted_disk.proofs.disk.RacingHostedDisk.look.Given as goal
 

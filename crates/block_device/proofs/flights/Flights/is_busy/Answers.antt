@@ -1,6 +1,0 @@
-use Rattle.block_device.proofs.Bits.{busy_by}
-use Rattle.block_device.proofs.flights.Flights.is_busy.Goals as goal
-
-pub returns : goal.returns
-returns g c =
-    rw (← c.self.view_is) (busy_by c.self.inside.taken c.self.inside.tags.items c.self.invariant.1)

@@ -1,6 +1,0 @@
-use Rattle.racing_hosted_disk.proofs.Bits.{new_tags}
-use Rattle.racing_hosted_disk.proofs.tags.Tags.new.Goals as goal
-
-pub invariant_of-result : goal.invariant_of-result
-invariant_of-result g c =
-    new_tags c.args.depth c.loop-alloc.items.items c.loop-alloc.invariant.free c.loop-alloc.invariant.most c.requires
