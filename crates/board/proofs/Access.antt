@@ -31,7 +31,7 @@ use Rattle.board.proofs.Noted.{had_memory}
 use Rattle.board.proofs.OnHost.{passes_by}
 use Rattle.board.proofs.Runs.{answered}
 use Rattle.board.proofs.Whole.{whole}
-use Rattle.board.proofs.Seats.{extents_of-set, handles, handles_missing, slot_within}
+use Rattle.board.proofs.Seats.{extents_of-set, handles, handles_missing, own_within, slot_within}
 
 -- where a slot keeps its note of refusals, all do
 pub disturbed_kept : (slots : List BoardSlot) (h : ℕ) (slot new : BoardSlot) → slice_get slots h ≡ Some slot
@@ -63,7 +63,7 @@ whole_quietly {A} old new what budget turn reply is h = record {
       whole what budget (state_of image old) health health (state_of image new) [] reply
       (subst (λ (t : Turn A). Begins what budget (state_of image old) health health (state_of image new) [] t) is
       (h.begins image health));
-  extent = h.extent;
+  place = h.place;
   disturbed = h.disturbed;
   answered = λ lacks. h.answered (is ∙ ap (λ r. Answered r) lacks);
 }
@@ -95,18 +95,18 @@ leaves_quietly {A = A} disk slots image h found new what reply old whole sound i
           answered
           (handles slots before before (record { slot = h; what = what }) slot new reply (block_irq shown)
           (console_irq shown) [] []
-          sound.apart here does.extent (does.disturbed ∙ (unmet slot.disturbed before.failures
+          sound.apart here does.place (does.disturbed ∙ (unmet slot.disturbed before.failures
           ∙ ap (λ (b : Bool). slot.disturbed || (b || nat_lt before.failures before.failures))
           (sym (had_memory reply does.answered)))) refl
           (record {
             output = [];
             given = does.given (bytes_of before) (health_of before)
                 (count_of slot.extent before tells whole
-                (slot_within before.sector_count slots h slot sound.within here));
+                (own_within before.sector_count slot (slot_within before.sector_count slots h slot sound.within here)));
             appended = refl;
           }) refl refl);
       others = λ other differ. others_kept slots h new other differ;
-      extents = extents_of-set slots h slot new here does.extent;
+      extents = extents_of-set slots h slot new here does.place;
       image = refl;
       disturbed = disturbed_kept slots h slot new here does.disturbed;
     })
@@ -135,7 +135,7 @@ put_quietly A slot new addr bytes test is = record {
         answered = λ lacks. absurd (cc);
         failures = refl;
       }));
-  extent = ap (λ (s : BoardSlot). s.extent) is;
+  place = (ap (λ (s : BoardSlot). s.extent) is, ap (λ (s : BoardSlot). s.spare) is);
   disturbed = ap (λ (s : BoardSlot). s.disturbed) is;
   answered = λ lacks. absurd (cc);
 }
@@ -175,8 +175,8 @@ pub register_at : (slots : List BoardSlot) (disk : Disk) (h : ℕ) (slot : Board
     → IsSomeAnd (slice_get (seen slots disk).slots h) (λ state. value ≡ register state window offset width)
 register_at slots disk h slot window offset width value tells whole sound here is =
     rw (slice_get-map (state_of (bytes_of disk)) slots h, here)
-    (is (bytes_of disk) (count_of slot.extent disk tells whole (slot_within disk.sector_count slots h slot
-    sound.within here)))
+    (is (bytes_of disk) (count_of slot.extent disk tells whole (own_within disk.sector_count slot
+    (slot_within disk.sector_count slots h slot sound.within here))))
 
 -- what was refused left the slot as it was, and so it left the board
 pub kept_board : {I T E : Type 0} (result : Result T E) (slots : List BoardSlot) (image : I) (h : ℕ)

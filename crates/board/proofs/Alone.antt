@@ -16,7 +16,7 @@ use Rattle.board.specs.World.{World, MayGive, MayGiveBy, MayGiveOverImage, SlotS
 use Rattle.board.specs.Line.{Move, IsLine, IsUndisturbed, IsQuiet, RunsAlone, IsAlone, MayBeTold, RunsAsItMay, SeesTheSame, own_events, own_records, events_of, records_of}
 pub use Rattle.board.proofs.Lists.{get_set, get_set_other}
 use Rattle.board.proofs.OneRun.{next_of, on_host_as, one_run}
-use Rattle.board.proofs.Refusals.{Failed, Unput, Unread, Unsent, WasRefused, was_refused}
+use Rattle.board.proofs.Refusals.{Failed, FailedImage, Unput, Unread, Unsent, WasRefused, was_refused}
 use Rattle.board.proofs.Seats.{by_slot}
 use Rattle.board.proofs.Steps as steps
 
@@ -24,6 +24,8 @@ use Rattle.board.proofs.Steps as steps
 refused_shows : {A : Type 0} (state : SlotState) (what : EventKind A) (old new : Health) (outcome : Outcome A)
     → WasRefused state what old new outcome → outcome.reply ≢ NoMemory → new.failures ≡ old.failures → ⊥
 refused_shows state what old new outcome (Failed block h) answered stood =
+    absurd (omega (arith, h.failures, stood))
+refused_shows state what old new outcome (FailedImage n disk asked is by h) answered stood =
     absurd (omega (arith, h.failures, stood))
 refused_shows state what old new outcome (Unsent console puts h) answered stood =
     answered (ap (λ o. o.reply) h.is)

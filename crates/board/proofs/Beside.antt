@@ -1,5 +1,5 @@
 -- An event in which the disk has no part: what it keeps of the slot.
-use Rattle.std.proofs.Common.{◌≡◌, ◌≢◌, ℕ, List, [], Bool, true, false, Option, Some, None, refl, sym, ◌∙◌, ap, subst}
+use Rattle.std.proofs.Common.{◌≡◌, ◌≢◌, ℕ, List, [], Bool, false, Option, Some, None, refl, sym, ◌∙◌, ap, subst}
 use Rattle.guest_memory.specs.Memory.{Memory, SameRange}
 use Rattle.guest_memory.proofs.Ranges.{same_trans}
 use Rattle.board.specs.declared.event.SlotWindow.{SlotWindow}
@@ -13,10 +13,10 @@ use Rattle.board.specs.declared.pause.Service.{Service}
 use Rattle.board.specs.declared.pause.Service.TheVariants as service
 use Rattle.board.specs.Backing.{HostDisk, sectors_by}
 use Rattle.board.specs.Flights.{KeepsFlights}
-use Rattle.board.specs.Hosting.{block_beside, device_extent, is_block_task, notifies_block}
-use Rattle.board.specs.Machine.{task_at, with_write}
-use Rattle.board.specs.Pausing.{asked_by, asked_over_image}
-use Rattle.board.specs.Slot.{BoardSlot, IsUnnoted, SlotState, state_of}
+use Rattle.board.specs.Hosting.{block_beside, device_extent, is_block_task}
+use Rattle.board.specs.Machine.{with_write}
+use Rattle.board.specs.Slot.{KeepsPlace, BoardSlot, IsUnnoted, SlotState, state_of}
+use Rattle.board.proofs.Seats.{same_whole}
 use Rattle.board.specs.Task.{Task, Serve}
 
 -- it has as many sectors as its guest's disk
@@ -39,29 +39,33 @@ range_of m n is = subst (λ (k : Memory). SameRange m k) (sym is) (same_range m)
 -- what a slot keeps that is seen so afterwards
 pub keeps_as : {A : Type 0} {what : EventKind A} (old new : BoardSlot) (state : SlotState)
     → state_of [] new ≡ state → state.block ≡ block_beside what old → state.host ≡ old.host
-    → state.memory ≡ old.memory → new.extent ≡ old.extent → KeepsFlights what old new
-keeps_as old new state is block host memory extent = record {
+    → state.memory ≡ old.memory → KeepsPlace old new → KeepsFlights what old new
+keeps_as old new state is block host memory place = record {
   block = λ free. ap (λ (s : SlotState). s.block) is ∙ block;
   host = ap (λ (s : SlotState). s.host) is ∙ host;
   range = range_of old.memory new.memory (ap (λ (s : SlotState). s.memory) is ∙ memory);
-  extent = extent;
+  place = place;
 }
 
 pub written_keeps : {A : Type 0} (window : SlotWindow) (offset width value : ℕ) (old new : BoardSlot)
-    → IsWritten window offset width value old new → new.extent ≡ old.extent
+    → IsWritten window offset width value old new → KeepsPlace old new
     → KeepsFlights {A = A} (Write window offset width value) old new
-written_keeps Block offset width value old new is extent = keeps_as old new _ (is []) refl refl refl extent
-written_keeps Console offset width value old new is extent = keeps_as old new _ (is []) refl refl refl extent
+written_keeps Block offset width value old new is place = keeps_as old new _ (is []) refl refl refl place
+written_keeps Console offset width value old new is place = keeps_as old new _ (is []) refl refl refl place
+
+-- what lies where it did twice, does
+pub place_still : (old mid new : BoardSlot) → KeepsPlace old mid → KeepsPlace mid new → KeepsPlace old new
+place_still old mid new first then = (then.0 ∙ first.0, then.1 ∙ first.1)
 
 -- and so does what leaves the block device behind it
 pub keeps_on : {A : Type 0} {what : EventKind A} (old mid new : BoardSlot) → KeepsFlights what old mid
-    → new.block ≡ mid.block → new.host ≡ mid.host → SameRange mid.memory new.memory → new.extent ≡ mid.extent
+    → new.block ≡ mid.block → new.host ≡ mid.host → SameRange mid.memory new.memory → KeepsPlace mid new
     → KeepsFlights what old new
-keeps_on old mid new keeps block host range extent = record {
+keeps_on old mid new keeps block host range place = record {
   block = λ free. block ∙ keeps.block free;
   host = host ∙ keeps.host;
   range = same_trans old.memory mid.memory new.memory keeps.range range;
-  extent = extent ∙ keeps.extent;
+  place = place_still old mid new keeps.place place;
 }
 
 -- a task of the console is none of the block device
@@ -72,27 +76,14 @@ not_block task service.Receive is other = rw is refl
 not_block task service.Transmit is other = rw is refl
 not_block task (service.Further n q) is other = rw is refl
 
--- ---- the block device was notified
-
--- and so the event asks for its service
-rung : (task : Task) → true ≡ is_block_task task → task ≡ Serve service.Block
-rung (Serve service.Block) rings = refl
-rung _ rings = absurd (cc (rings))
-
-pub block_asked : {A : Type 0} (what : EventKind A) (state : SlotState) → true ≡ notifies_block what state
-    → asked_over_image what state ≡ Some (record { service = service.Block; taken = None })
-block_asked (Write window offset width value) state rings =
-    ap asked_by (rung (task_at window offset width value state) rings)
-block_asked _ state rings = absurd (cc (rings))
-
 -- what its service leaves to be noted is that of the event
-pub unnoted_behind : (old mid new : BoardSlot) (before after : Disk) (failed : Bool) → mid.extent ≡ old.extent
+pub unnoted_behind : (old mid new : BoardSlot) (before after : Disk) (failed : Bool) → KeepsPlace old mid
     → mid.disturbed ≡ old.disturbed
     → IsUnnoted mid new before after failed → IsUnnoted old new before after failed
-unnoted_behind old mid new before after failed extent disturbed h = record {
+unnoted_behind old mid new before after failed place disturbed h = record {
   stays = record {
-    extent = h.stays.extent ∙ extent;
-    image = subst (λ (e : Extent). StaysInExtent e before after) extent h.stays.image;
+    place = place_still old mid new place h.stays.place;
+    image = subst (λ (e : Extent). StaysInExtent e before after) (same_whole old mid place) h.stays.image;
   };
   disturbed = h.disturbed ∙ disturbed;
   counted = h.counted;

@@ -13,7 +13,8 @@ use Rattle.mmio_window.specs.Writing.{action_of}
 use Rattle.block_device.specs.declared.device.BlockDevice.{BlockDevice}
 use Rattle.block_device.specs.declared.operation.HostEvent.{HostEvent}
 use Rattle.block_device.specs.declared.operation.HostEvent.TheVariants.{Complete, Drop, Hold, Release}
-use Rattle.block_device.specs.Flights.{HostedQueue, InFlight, freed, given_up}
+use Rattle.block_device.specs.Flights.{HostedQueue, InFlight, given_up}
+use Rattle.block_device.specs.Tags.{freed}
 use Rattle.hosted_disk.specs.Disk.{HostedDisk, LooksUnless, ServesDisk, queue_of}
 use Rattle.hosted_disk.specs.Told.{QueueTold, held_by}
 use Rattle.device_list.specs.Card.{Card, with_frame, with_link}
@@ -21,7 +22,7 @@ use Rattle.device_list.specs.Device.{DeviceState, Receives, ServesDevice, Serves
 use Rattle.device_list.specs.List.{At, are_at_work, changed_at}
 use Rattle.snapshot.specs.declared.saved.SavedDevice.{SavedDevice}
 use Rattle.device_list.specs.Saved.{device_window_restored, first_restored, with_window}
-use Rattle.device_list.specs.Model.{Block, Console, Entropy, ModelState, Network, Serves, configured, disk_of, supplied_model, with_card, with_terminal, without_sent}
+use Rattle.device_list.specs.Model.{Block, Console, Entropy, Image, ModelState, Network, Serves, configured, disk_of, supplied_model, with_card, with_terminal, without_sent}
 use Rattle.device_list.specs.Terminal.{Terminal, with_size}
 use Rattle.board.specs.declared.event.DeviceEvent.{DeviceEvent}
 use Rattle.board.specs.declared.event.DeviceEvent.TheVariants.{Plug, Read, Write, Supply, Receive, TakeSent, DropSent, SetLink, Resize, Host}
@@ -32,6 +33,8 @@ use Rattle.board.specs.Devices.{DoesIf, DoesTo}
 use Rattle.board.specs.HostedDisks.{DiskUnit, Further, Own, SlotDisk, in_flight_of, on_hold_of, said_of, said_there, unit_of}
 use Rattle.board.specs.Hosting.{IsNoRestore, hosted_device, hosted_queue}
 use Rattle.board.specs.Image.{Health}
+use Rattle.board.specs.ImageDisks.{image_asked}
+use Rattle.board.proofs.AtDevice.{IsLeftBy, by_image, image_left, refused_by_image}
 use Rattle.board.specs.Machine.{readied}
 use Rattle.board.specs.Outcome.{Outcome}
 use Rattle.board.specs.Restoring.{IsTakenUp, RestoresUnless}
@@ -193,6 +196,7 @@ module _ (May : HostEvent → Type 0) where
   serves_steps (Network card) q m m' w w' other h =
       no_disk (Network card) other refl refl (ap flights_in h.is) (ap holds_in h.is)
   serves_steps (Block disk) q m m' w w' other h = disk_serves disk q m m' w w' h.after h.serves other h.is
+  serves_steps (Image disk) q m m' w w' other h = same_model (Image disk) other h.state
   serves_steps (Console terminal) q m m' w w' other h =
       no_disk (Console terminal) other refl refl (ap flights_in h.is) (ap holds_in h.is)
 
@@ -437,19 +441,33 @@ comes n what old new none =
     (ap (λ (f : Option DeviceState). option_map_or (λ (u : DiskUnit). u.disk.on_hold) (option_and_then unit_of f)
     false) none)
 
+image_steps : {A : Type 0} (n k : ℕ) (what : DeviceEvent A) (old new : SlotState) (d : DeviceState) (disk : BlockDevice)
+    → slice_get old.devices n ≡ Some d → IsLeftBy k old.devices new.devices disk
+    → StepsTo (Further n) (event.Device k what) old new
+image_steps n k what old new d disk there left =
+    model_steps k n what old new d there
+    (at_left k what n d old.devices new.devices left.before left.after there left.there left.is
+    (λ same. same_model _ left.before.model left.after.model left.model))
+
 device_steps : {A : Type 0} (n k : ℕ) (what : DeviceEvent A) (old : SlotState) (before after : Health)
     (outcome : Outcome A) (found : Option DeviceState) → slice_get old.devices n ≡ found
     → MayGiveOverImage old (event.Device k what) before after outcome
     → StepsTo (Further n) (event.Device k what) old outcome.state
 device_steps n k what old before after outcome None none h = comes n (event.Device k what) old outcome.state none
 device_steps {A} n k what old before after outcome (Some d) there (inl served) =
-    of_device k what old (λ (o : Outcome A). StepsTo (Further n) (event.Device k what) old o.state) before after
-    outcome served.alike (further_stays n (event.Device k what) old old refl)
+    by_image k what old before after outcome (image_asked k what old)
+    (λ none given. of_device k what old (λ (o : Outcome A). StepsTo (Further n) (event.Device k what) old o.state) before after
+    outcome given (further_stays n (event.Device k what) old old refl)
     (λ reply is step. model_steps k n what old outcome.state d there
-    (does_left k n what d old.memory outcome.state.memory old.devices outcome.state.devices there step.at))
-device_steps {A} n k what old before after outcome (Some d) there (inr unmet) =
-    further_stays n (event.Device k what) old outcome.state
-    (ap (λ (o : Outcome A). o.state.devices) unmet.unchanged)
+    (does_left k n what d old.memory outcome.state.memory old.devices outcome.state.devices there step.at)))
+    (λ disk asked h. image_steps n k what old outcome.state d disk there
+    (image_left k what old outcome.state disk _ before after asked h.serves)) served.alike
+device_steps {A} n k what old before after outcome (Some d) there (inr refused) =
+    refused_by_image k what old before after outcome (image_asked k what old)
+    (λ none unmet. further_stays n (event.Device k what) old outcome.state
+    (ap (λ (o : Outcome A). o.state.devices) unmet.unchanged))
+    (λ disk asked h. image_steps n k what old outcome.state d disk there
+    (image_left k what old outcome.state disk _ before after asked h.service.serves)) refused
 
 -- ---- a restore
 

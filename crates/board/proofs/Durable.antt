@@ -1,12 +1,11 @@
 -- While no call of the image fails a clean image stays clean; so a stop leaves what the guests see.
-use Rattle.std.proofs.Common.{◌≡◌, inl, inr, ℕ, Option, Some, None, List, [], ◌∷◌, length, map, refl, sym, ap, ◌∙◌, arith}
+use Rattle.std.proofs.Common.{◌≡◌, inl, inr, ℕ, Option, Some, None, List, [], ◌∷◌, length, refl, sym, ap, ◌∙◌, arith}
 use Rattle.std.specs.Prelude.{IfSome, IsSome, MatchOption, false, unwrap_or}
 use Rattle.std.specs.List.{slice_get}
 use Rattle.guest_memory.specs.Memory.{Memory}
 use Rattle.chain.specs.Bytes.{readable_of, writable_of}
 use Rattle.chain.specs.Service.{after}
 use Rattle.sector_cache.specs.Disk.{Disk, LeavesContents}
-use Rattle.sector_cache.specs.Sector.{extent_of}
 use Rattle.mmio_window.specs.declared.queue.Queue.{Queue}
 use Rattle.mmio_window.specs.Serving.{IsNotified}
 use Rattle.mmio_window.specs.Window.{WindowState, queue_at}
@@ -20,16 +19,18 @@ use Rattle.board.specs.declared.reply.Record.{Record}
 use Rattle.board.specs.declared.pause.Service.TheVariants.{Block, Receive, Transmit, Further}
 use Rattle.board.specs.Durable.{IsLeftAsSeen}
 use Rattle.board.specs.Image.{Health, Tells, bytes_of, disk_with}
+use Rattle.board.specs.ImageDisks.{bytes_in, image_asked, image_device}
 use Rattle.board.specs.Line.{IsLine, Move}
 use Rattle.board.specs.Machine.{GivesOverImage, task_at, with_write}
 use Rattle.board.specs.Outcome.{Outcome}
-use Rattle.board.specs.Slot.{BoardSlot, SlotState, state_of}
+use Rattle.board.specs.Slot.{BoardSlot, SlotState}
 use Rattle.board.specs.Task.{Finishes, Nothing, PutOut, Serve, Task, device_of}
+use Rattle.board.proofs.AtDevice.{by_image}
 use Rattle.board.proofs.FurtherDevices.{device_image}
 use Rattle.board.proofs.OnHost.{failing_over_image}
 use Rattle.board.specs.World.{MayGive, MayGiveOverImage, MissingStep, SlotStep, World, seen}
 use Rattle.board.proofs.Chains.{kept}
-use Rattle.board.proofs.Refusals.{Failed, Unput, Unread, Unsent, was_refused}
+use Rattle.board.proofs.Refusals.{Failed, FailedImage, Unput, Unread, Unsent, was_refused}
 use Rattle.board.proofs.Runs.{line_failures, step_failures}
 
 -- ---- a service of the disk in which no call fails
@@ -77,7 +78,12 @@ served_clean state (event.Resize cols rows) old new outcome clean h = same_dirty
 served_clean state (event.Restore bytes) old new outcome clean h = same_dirty old new h.image clean
 served_clean state (event.Host said) old new outcome clean h = same_dirty old new h.image clean
 served_clean state (event.Device n what) old new outcome clean h =
-    same_dirty old new (device_image n what state old new outcome h) clean
+    by_image n what state old new outcome (image_asked n what state)
+    (λ none given. same_dirty old new (device_image n what state old new outcome given) clean)
+    (λ disk asked served. let s = served.serves in
+    notified_clean (image_device disk) (queue_at 0 s.device.window) state.memory outcome.state.memory s.device.window
+    s.window (disk_with (bytes_in disk state.spare_bytes) old) (disk_with (bytes_in disk outcome.state.spare_bytes) new)
+    clean s.serves) h
 
 clean_over_image : {A : Type 0} (state : SlotState) (what : EventKind A) (old new : Health)
     (outcome : Outcome A) → new.failures ≡ old.failures → old.dirty ≡ false
@@ -87,6 +93,7 @@ clean_over_image state what old new outcome same clean (inl h) =
 clean_over_image state what old new outcome same clean (inr h) =
     elim (was_refused state what old new outcome h) [
       | Failed block h ↦ absurd (omega (arith, h.failures, same))
+      | FailedImage n disk asked is by h ↦ absurd (omega (arith, h.failures, same))
       | Unsent console puts h ↦ same_dirty old new h.image clean
       | Unput console puts h ↦ same_dirty old new h.image clean
       | Unread is h ↦ same_dirty old new h.image clean
@@ -124,13 +131,6 @@ line_clean old new (move ∷ moves) line same clean =
 
 -- ---- a stop
 
-extents_seen : (slots : List BoardSlot) (bytes : List ℕ)
-    → map (λ slot. extent_of bytes slot.extent.start slot.extent.count) slots
-    ≡ map (λ state. state.extent) (map (state_of bytes) slots)
-extents_seen [] bytes = refl
-extents_seen (slot ∷ slots) bytes =
-    ap (λ rest. extent_of bytes slot.extent.start slot.extent.count ∷ rest) (extents_seen slots bytes)
-
 pub contents_left : (contents : Option (List ℕ)) (left : List ℕ) → IsSome contents
     → IfSome contents (λ bytes. left ≡ bytes) → left ≡ unwrap_or contents []
 contents_left None left tells same = absurd (cc)
@@ -140,4 +140,4 @@ pub left_as_seen : (slots : List BoardSlot) (disk : Disk) (left : List ℕ) → 
     → LeavesContents disk left → IsLeftAsSeen slots (seen slots disk) left
 left_as_seen slots disk left tells clean leaves =
     let same : left ≡ bytes_of disk = contents_left disk.contents left tells (leaves clean) in
-    rw same (record { extents = extents_seen slots (bytes_of disk); outside = refl })
+    rw same (record { disks = refl; outside = refl })

@@ -6,7 +6,7 @@ use Rattle.board.specs.Outcome.{Outcome}
 use Rattle.board.specs.Slot.{SlotState}
 use Rattle.board.specs.World.{MayGive, MayGiveOverImage}
 use Rattle.board.proofs.OnHost.{failing_over_image}
-use Rattle.board.proofs.Refusals.{Failed, Unput, Unread, Unsent, was_refused}
+use Rattle.board.proofs.Refusals.{Failed, FailedImage, Unput, Unread, Unsent, was_refused}
 
 same_failures : (old new : Health) → new ≡ old → old.failures ≤ new.failures
 same_failures old new same = let is : new.failures ≡ old.failures = ap (λ (h : Health). h.failures) same in
@@ -19,6 +19,7 @@ over_image_failures state what old new outcome (inl served) = let same : new.fai
 over_image_failures state what old new outcome (inr refused) =
     elim (was_refused state what old new outcome refused) [
       | Failed block h ↦ omega (arith, h.failures)
+      | FailedImage n disk asked is by h ↦ omega (arith, h.failures)
       | Unsent console puts h ↦ same_failures old new h.image
       | Unput console puts h ↦ same_failures old new h.image
       | Unread is h ↦ same_failures old new h.image

@@ -4,11 +4,14 @@ use Rattle.std.specs.Prelude.{◌&&◌}
 use Rattle.guest_memory.specs.Memory.{Memory, SameRange}
 use Rattle.board.specs.declared.event.SlotWindow.TheVariants.{Block}
 use Rattle.mmio_window.specs.Ready.{KeepsQueues}
-use Rattle.mmio_window.specs.Window.{WindowState, queue_at}
+use Rattle.mmio_window.specs.Window.{WindowState}
 use Rattle.mmio_window.proofs.ReadyLemmas.{ready_queue_outlasts}
 use Rattle.block_device.specs.declared.extent.Extent.{Extent}
-use Rattle.block_device.specs.Flights.{AreHeld, is_any}
-use Rattle.hosted_disk.proofs.Flights.{held_still, keeps_all, none_ahead, none_held, none_taken}
+use Rattle.block_device.specs.Flights.{AreHeld}
+use Rattle.block_device.specs.Tags.{is_any}
+use Rattle.block_device.proofs.Freeing.{none_in_flight}
+use Rattle.block_device.proofs.Held.{idle_tags_held}
+use Rattle.hosted_disk.proofs.Flights.{held_still, keeps_all}
 use Rattle.board.specs.declared.event.EventKind.{EventKind}
 use Rattle.board.specs.declared.event.EventKind.TheVariants.{Write, Restore, Host}
 use Rattle.board.specs.Backing.{HostDisk, sectors_by, tags_in}
@@ -50,15 +53,12 @@ held_quietly slot new host extent same block held =
 -- ---- nothing is in flight
 
 pub held_none : (slot : BoardSlot) → is_any (tags_in slot.host) ≡ false → HoldsFlights slot
-held_none slot none = record {
-  each = none_held (sectors_in slot) slot.memory (tags_in slot.host) none;
-  ahead = none_ahead (queue_at 0 slot.block) (tags_in slot.host) none;
-}
+held_none slot none = idle_tags_held (sectors_in slot) slot.memory slot.block (tags_in slot.host) none
 
 -- so it is of a slot that was just opened
 opened_none : (backing : Backing) (extent : Extent) → is_any (tags_in (host_by backing extent)) ≡ false
 opened_none Image extent = refl
-opened_none (Host depth) extent = none_taken depth
+opened_none (Host depth) extent = none_in_flight _ depth
 
 pub held_opened : (spec : SlotSpec) (memory : Memory) (slot : BoardSlot) → slot ≡ opened_over spec memory
     → HoldsFlights slot
@@ -77,6 +77,6 @@ held_beside {A} what slot new free keeps held =
         held_none new (ap (λ (h : Option HostDisk). is_any (tags_in h)) keeps.host ∙ none)
     by_tags true some true is free = absurd (cc)
     by_tags true some false is free =
-        held_by slot new keeps.host keeps.extent keeps.range
+        held_by slot new keeps.host keeps.place.0 keeps.range
         (subst (λ (w : WindowState). KeepsQueues slot.block w) (sym (keeps.block is)) (keeps_queues what slot is))
         held

@@ -9,10 +9,11 @@ use Rattle.device_list.specs.declared.spec.DeviceSpec.{DeviceSpec}
 use Rattle.mmio_window.specs.Ready.{may_stop_queues}
 use Rattle.block_device.specs.declared.operation.HostEvent.{HostEvent}
 use Rattle.block_device.specs.declared.operation.HostEvent.TheVariants.{Drop}
-use Rattle.block_device.specs.Flights.{HostedQueue, InFlight, freed, is_any}
+use Rattle.block_device.specs.Flights.{HostedQueue, InFlight}
+use Rattle.block_device.specs.Tags.{freed, is_any}
 use Rattle.hosted_disk.specs.Disk.{HostedDisk}
 use Rattle.hosted_disk.specs.Told.{has_effect}
-use Rattle.device_list.specs.Model.{ModelState, Block, Console, Entropy, Network, disk_of, must_wait}
+use Rattle.device_list.specs.Model.{ModelState, Block, Console, Entropy, Image, Network, disk_of, must_wait}
 use Rattle.device_list.specs.Device.{DeviceState, Receives, TakesSent, Told, Writes, register_of, supply_taken}
 use Rattle.device_list.specs.List.{At, card_at, disk_at, outgoing_at, sent_by, terminal_at, waits_at}
 use Rattle.device_list.specs.Card.{Card, receive_refusal}
@@ -28,7 +29,9 @@ use Rattle.board.specs.declared.reply.Reply.{Reply}
 use Rattle.board.specs.declared.reply.Reply.TheVariants.{Value, Done, Bytes, Took, BadDevice, Busy, Idle, NoMemory}
 use Rattle.board.specs.Devices.{DoesTo, GivesByDevice, GivesDevice, AreSet, DoesIf, IsDeviceStep, IsUnmet, MayReplyDevice, StaysSo, TakesMemoryFor, can_plug, device_reply, has_effect_at, received_reply, reply_at, told_reply, waits_for_disk, waits_there}
 use Rattle.board.specs.Waiting.{may_wait_there}
+use Rattle.block_device.specs.declared.device.BlockDevice.{BlockDevice}
 use Rattle.board.specs.Image.{Health}
+use Rattle.board.specs.ImageDisks.{GivesAtDevice, image_asked}
 use Rattle.board.specs.Outcome.{Outcome, replies}
 use Rattle.board.specs.Slot.{SlotState}
 use Rattle.board.specs.World.{MayGiveOverImage}
@@ -209,10 +212,15 @@ unmet_replies {A} n what state before after outcome h =
 
 -- what a slot gives for it may be given over an image
 pub device_given : {A : Type 0} (n : ℕ) (what : DeviceEvent A) (old new : SlotState) (reply : Reply A)
-    (health : Health) → reply ≢ NoMemory → GivesDevice n what old health health (replies new reply)
+    (health : Health) → image_asked n what old ≡ None → reply ≢ NoMemory
+    → GivesDevice n what old health health (replies new reply)
     → MayGiveOverImage old (Device n what) health health (replies new reply)
-device_given n what old new reply health answered h =
-    inl (record { alike = h; answered = answered; failures = refl })
+device_given {A} n what old new reply health none answered h =
+    inl (record {
+      alike = subst (λ (f : Option BlockDevice). GivesAtDevice f n what old health health (replies {A = A} new reply)) (sym none) h;
+      answered = answered;
+      failures = refl;
+    })
 
 -- ---- there is at most one outcome
 
@@ -391,6 +399,7 @@ waiting_stops offset (Block disk) waits = both_true (is_any disk.tags) (may_stop
     both_true false stops is = absurd (cc is)
 waiting_stops offset (Entropy pool) waits = absurd (cc waits)
 waiting_stops offset (Network card) waits = absurd (cc waits)
+waiting_stops offset (Image disk) waits = absurd (cc waits)
 waiting_stops offset (Console terminal) waits = absurd (cc waits)
 
 pub device_may_wait : {A : Type 0} (n : ℕ) (what : DeviceEvent A) (devices : List DeviceState)

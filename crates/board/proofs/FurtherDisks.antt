@@ -6,11 +6,11 @@ use Rattle.std.specs.Option.{option_and_then, option_map}
 use Rattle.std.proofs.lemmas.Option.{same_Some}
 use Rattle.guest_memory.specs.Memory.{Memory}
 use Rattle.mmio_window.specs.Window.{WindowState}
-use Rattle.block_device.specs.Flights.{TagIsHeld}
+use Rattle.block_device.specs.Tags.{TagIsHeld}
 use Rattle.hosted_disk.specs.Disk.{HostedDisk}
 use Rattle.device_list.specs.Device.{DeviceState}
 use Rattle.device_list.specs.List.{AreSoundDevices, disk_at}
-use Rattle.device_list.specs.Model.{ModelState, Block, Console, Entropy, Network, IsHeld, disk_of}
+use Rattle.device_list.specs.Model.{ModelState, Block, Console, Entropy, Image, Network, IsHeld, disk_of}
 use Rattle.device_list.proofs.Sound.{one_sound}
 
 there_is : {A : Type 0} (xs : List A) (n : ℕ) (x : A) → slice_get xs n ≡ Some x → (n < length xs) × (x ≡ get_or xs n x)
@@ -28,6 +28,7 @@ by_model m w (Block found) disk held is = subst (AreTagsHeld m) (same_Some found
 by_model m w (Entropy pool) disk held is = absurd (cc is)
 by_model m w (Network card) disk held is = absurd (cc is)
 by_model m w (Console terminal) disk held is = absurd (cc is)
+by_model m w (Image own) disk held is = absurd (cc is)
 
 disk_held : (m : Memory) (devices : List DeviceState) (n : ℕ) (disk : HostedDisk) → AreSoundDevices m devices
     → disk_at n devices ≡ Some disk → AreTagsHeld m disk

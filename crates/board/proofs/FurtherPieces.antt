@@ -1,4 +1,12 @@
 -- The service that is asked for by what is done to a further device: at its end that was done.
+use Rattle.chain.specs.Service.{Device as ChainDevice}
+use Rattle.sector_cache.specs.Disk.{Disk}
+use Rattle.mmio_window.specs.Window.{queue_at}
+use Rattle.mmio_window.proofs.Pieces.{notified_once}
+use Rattle.block_device.specs.declared.device.BlockDevice.{BlockDevice}
+use Rattle.block_device.specs.Device.{block_device, exact_device}
+use Rattle.board.specs.ImageDisks.{GivesAtDevice, IsImageDiskService, IsRefusedAtDevice, bytes_in, device_readied, image_asked, image_device, image_served}
+use Rattle.board.proofs.AtDevice.{IsWrite, asked_write, served_readied}
 use Rattle.std.proofs.Common.{◌≡◌, ◌≢◌, inl, inr, ℕ, Bool, true, false, Option, Some, None, List, [], length, refl, sym, ◌∙◌, ap, subst}
 use Rattle.std.specs.Prelude.{if◌then◌else◌, is_none, is_some, unwrap_or}
 use Rattle.std.specs.List.{slice_get}
@@ -23,12 +31,12 @@ use Rattle.board.specs.declared.pause.Service.TheVariants.{Further}
 use Rattle.board.specs.declared.pause.Turn.{Turn}
 use Rattle.board.specs.declared.pause.Turn.TheVariants.{Answered, More}
 use Rattle.board.specs.declared.reply.Reply.{Reply}
-use Rattle.board.specs.declared.reply.Reply.TheVariants.{Took, NoMemory}
+use Rattle.board.specs.declared.reply.Reply.TheVariants.{Done, Took, NoMemory}
 use Rattle.board.specs.Devices.{DoesTo, device_asks, device_reply, devices_readied, further_service, received_reply, reply_at, waits_there}
-use Rattle.board.specs.Image.{Health}
+use Rattle.board.specs.Image.{Health, disk_with}
 use Rattle.board.specs.Machine.{GivesOverImage, readied}
 use Rattle.board.specs.Outcome.{replies}
-use Rattle.board.specs.Pausing.{BeginsOverImage, EndsBy, IsFurtherPiece, TurnsTo, reply_by}
+use Rattle.board.specs.Pausing.{BeginsOverImage, EndsBy, IsAnyImageDiskPiece, IsFurtherPiece, IsImageDiskPiece, IsPieceAtDevice, TurnsTo, reply_by}
 use Rattle.board.specs.Slot.{SlotState}
 use Rattle.board.specs.Within.{BeginsWithinOverImage, PieceBy, TurnWithin}
 use Rattle.board.specs.World.{MayGiveOverImage}
@@ -268,11 +276,13 @@ module _ {A : Type 0} (n : ℕ) (what : DeviceEvent A) (state : SlotState) (paus
   abbrev With : Memory → List DeviceState → SlotState
   With memory devices = record state { memory = memory; devices = devices }
 
-  pub gives_at : (health : Health) (m' : Memory) (new : List DeviceState)
+  pub gives_at : (health : Health) (m' : Memory) (new : List DeviceState) → image_asked n what state ≡ None
       → At (ServesDevice a.queue) n state.memory m' (devices_readied n what state.memory state.devices) new
       → GivesOverImage {A = A} state (Device n what) health health (replies (With m' new) (reply_by a.taken))
-  gives_at health m' new h =
-      rw a.answers (record { at = does_at m' new h; is = refl; image = refl })
+  gives_at health m' new none h =
+      subst (λ (f : Option BlockDevice). GivesAtDevice f n what state health health (replies {A = A} (With m' new)
+      (reply_by a.taken))) (sym none)
+      (rw a.answers (record { at = does_at m' new h; is = refl; image = refl }))
 
   -- the device is there as its service begins
   pub there_readied : slice_get (devices_readied n what state.memory state.devices) n ≡ Some (a.change a.device)
@@ -281,19 +291,84 @@ module _ {A : Type 0} (n : ℕ) (what : DeviceEvent A) (state : SlotState) (paus
       ∙ changed_there a.change n state.devices a.device a.there
 
   pub further_given : (budget : Budget) (before after : Health) (new : SlotState) (output : List ℕ)
+      → image_asked n what state ≡ None
       → IsFurtherPiece n a.queue First budget progress.Done (readied (Device n what) state) before after new output
       → MayGiveOverImage {A = A} state (Device n what) before after
       (record { state = new; reply = reply_by a.taken; output = output })
-  further_given budget before after new output h =
+  further_given budget before after new output none h =
       let whole = devices_once budget n a.queue state.memory new.memory
       (devices_readied n what state.memory state.devices) new.devices (a.change a.device) there_readied h.served in
       let is : record { state = new; reply = reply_by a.taken; output = output }
       ≡ replies {A = A} (With new.memory new.devices) (reply_by a.taken) = rw (h.is, h.silent) refl in
       inl (record {
-        alike = rw (is, h.image) (gives_at before new.memory new.devices whole);
+        alike = rw (is, h.image) (gives_at before new.memory new.devices none whole);
         answered = reply_there A a.taken;
         failures = ap (λ (x : Health). x.failures) h.image;
       })
+
+-- a disk over the image that is asked serves by that service
+pub asked_is : {A : Type 0} (n : ℕ) (what : DeviceEvent A) (state : SlotState) (pause : Pause) (a : Asking n what state pause)
+    → device_asks n what state ≡ Some pause → image_asked n what state ≡ image_served (Further n a.queue) state
+asked_is n what state pause a asks =
+    ap (λ (o : Option Pause). option_and_then (λ p. image_served p.service state) o) asks
+    ∙ ap (λ (p : Pause). image_served p.service state) a.is
+
+-- what asks it is a write, whose service was handed nothing
+write_pause : {A : Type 0} (n : ℕ) (what : DeviceEvent A) (state : SlotState) (pause : Pause) → IsWrite what
+    → device_asks n what state ≡ Some pause → reply_by {A = A} pause.taken ≡ Done
+write_pause {A} n (Write offset width value) state pause is asks =
+    by_wait (waits_there n offset state.devices) asks
+  where
+    by_wait : (waits : Bool) → (if waits then None
+        else option_map (λ q. further_service n q None)
+        (option_and_then (notified_at offset width value) (slice_get state.devices n))) ≡ Some pause
+        → reply_by {A = A} pause.taken ≡ Done
+    by_wait true asks = absurd (cc asks)
+    by_wait false asks =
+        let found = notified_in n offset width value state.devices pause (slice_get state.devices n) refl asks in
+        ap (λ (p : Pause). reply_by p.taken) found.is
+write_pause n _ state pause is asks = absurd is
+
+-- the whole of its service
+module _ {A : Type 0} (n : ℕ) (what : DeviceEvent A) (state : SlotState) (disk : BlockDevice)
+    (asked : image_asked n what state ≡ Some disk) (budget : Budget) (before after : Health) (new : SlotState)
+    (output : List ℕ) where
+  served_whole : (device : ChainDevice Disk)
+      → IsImageDiskPiece device n disk First budget progress.Done (device_readied n what state) before after new output
+      → IsImageDiskService {A = A} device n disk (device_readied n what state) before after
+      (record { state = new; reply = Done; output = output })
+  served_whole device h =
+      let s = h.serves in
+      record {
+        serves = record {
+          device = s.device;
+          there = s.there;
+          window = s.window;
+          serves = record {
+            ending = s.serves.ending;
+            notified = notified_once device budget 0 (queue_at 0 s.device.window) s.serves.ending state.memory new.memory
+                s.device.window s.window (disk_with (bytes_in disk state.spare_bytes) before)
+                (disk_with (bytes_in disk new.spare_bytes) after) s.serves.notified;
+          };
+          outside = s.outside;
+          is = s.is;
+        };
+        is = ap (λ (out : List ℕ). record { state = new; reply = Done; output = out }) h.silent;
+      }
+
+  pub image_given :
+      IsAnyImageDiskPiece n disk First budget progress.Done (device_readied n what state) before after new output
+      → MayGiveOverImage {A = A} state (Device n what) before after (record { state = new; reply = Done; output = output })
+  image_given (inl (exact, stood)) = inl (record {
+    alike = subst (λ (f : Option BlockDevice). GivesAtDevice {A = A} f n what state before after
+        (record { state = new; reply = Done; output = output })) (sym asked)
+        (served_whole (exact_device (image_device disk)) exact);
+    answered = λ lacks. absurd (cc lacks);
+    failures = stood;
+  })
+  image_given (inr (failed, rose)) = inr (subst (λ (f : Option BlockDevice). IsRefusedAtDevice {A = A} f n what state before
+      after (record { state = new; reply = Done; output = output })) (sym asked)
+      (record { service = served_whole (block_device (image_device disk)) failed; failures = rose }))
 
 -- its service puts nothing out, so an outlet decides nothing of it
 pub device_within : {A : Type 0} (limit n : ℕ) (what : DeviceEvent A) (budget : Budget) (state : SlotState)
@@ -330,5 +405,20 @@ further_whole {A} n what state pause budget before after new output reply asks h
         → EndsBy (further_service n a.queue a.taken) First budget (readied (Device n what) state) before after new output reply
         → MayGiveOverImage state (Device n what) before after (record { state = new; reply = reply; output = output })
     by_end a (inl (done, piece)) =
-        rw done (further_given n what state pause a budget before after new output piece)
+        by_found (image_served (Further n a.queue) (device_readied n what state)) refl piece
+      where
+        is : image_asked n what state ≡ image_served (Further n a.queue) (device_readied n what state)
+        is = asked_is n what state pause a asks ∙ sym (served_readied n a.queue what state)
+
+        by_found : (found : Option BlockDevice) → image_served (Further n a.queue) (device_readied n what state) ≡ found
+            → IsPieceAtDevice found n a.queue First budget progress.Done (device_readied n what state) before after new output
+            → MayGiveOverImage state (Device n what) before after (record { state = new; reply = reply; output = output })
+        by_found None none h =
+            rw done (further_given n what state pause a budget before after new output (is ∙ none) h)
+        by_found (Some disk) some h =
+            let asked = is ∙ some in
+            let answer : reply ≡ Done =
+            done ∙ (sym (ap (λ (p : Pause). reply_by p.taken) a.is)
+            ∙ write_pause n what state pause (asked_write n what state disk asked) asks) in
+            rw answer (image_given n what state disk asked budget before after new output h)
     by_end a (inr (lacks, (other, refused))) = absurd (cc (other))

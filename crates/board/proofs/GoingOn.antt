@@ -76,8 +76,8 @@ like_saved saved other suits memory devices = record {
 }
 
 -- what a guest sees of a slot whose disk has these bytes
-abbrev seen_in : List ℕ → BoardSlot → SlotState
-seen_in extent slot = record (state_of [] slot) { extent = extent }
+abbrev seen_in : List ℕ → List ℕ → BoardSlot → SlotState
+seen_in extent spare_bytes slot = record (state_of [] slot) { extent = extent; spare_bytes = spare_bytes }
 
 as_left : (saved : BoardSlot) (bytes : List ℕ) (state new : SlotState) → HasBytesOf saved bytes state
     → IsSnapshotOf (snapshot_of saved) saved → IsTakenUp state (snapshot_of saved) new
@@ -91,8 +91,17 @@ as_left saved bytes state new has text taken =
     let is : IsAs saved (slot_in state) (slot_in new) =
     as_saved saved (slot_in state) (slot_in new) (snapshot_of saved) (read.saved, read.pending) text
     (like_saved saved (slot_in state) suits.beside has.memory has.devices) same read.takes_up in
-    ap (λ (slot : BoardSlot). seen_in new.extent slot) is
-    ∙ rw (taken.extent, has.memory, has.extent, has.host, windows_back saved.devices state.devices has.devices) refl
+    ap (λ (slot : BoardSlot). seen_in new.extent new.spare_bytes slot) is
+    ∙ rw (
+      taken.extent,
+      taken.spare,
+      has.memory,
+      has.extent,
+      has.spare,
+      has.spare_bytes,
+      has.host,
+      windows_back saved.devices state.devices has.devices,
+    ) refl
 
 -- the front of the buffer is the snapshot
 front_is : (saved : BoardSlot) (buffer text : List ℕ) (len : ℕ) → IsSavedTo saved buffer text len

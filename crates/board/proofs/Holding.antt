@@ -6,7 +6,8 @@ use Rattle.board.specs.declared.event.SlotWindow.TheVariants.{Block}
 use Rattle.block_device.specs.declared.device.BlockDevice.{BlockDevice}
 use Rattle.block_device.specs.declared.operation.HostEvent.{HostEvent}
 use Rattle.block_device.specs.declared.operation.Verdict.{Verdict}
-use Rattle.block_device.specs.Flights.{HostedQueue, InFlight, IsLanding, freed, is_any}
+use Rattle.block_device.specs.Flights.{HostedQueue, InFlight, IsLanding}
+use Rattle.block_device.specs.Tags.{freed, is_any}
 use Rattle.hosted_disk.specs.Disk.{LooksUnless}
 use Rattle.hosted_disk.specs.Told.{QueueTold, held_by}
 use Rattle.block_device.proofs.Landing.{landed_free, landed_others}

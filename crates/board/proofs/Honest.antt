@@ -17,7 +17,8 @@ use Rattle.block_device.specs.declared.device.BlockDevice.{BlockDevice}
 use Rattle.block_device.specs.declared.operation.Verdict.{Verdict}
 use Rattle.block_device.specs.declared.request.Request.{Request}
 use Rattle.block_device.specs.Asking.{IsAsked}
-use Rattle.block_device.specs.Flights.{AsksNext, HostedQueue, InFlight, IsGivenIn, IsLanding, LandsBy, LookEnds, LooksFrom, free_tag}
+use Rattle.block_device.specs.Flights.{AsksNext, HostedQueue, InFlight, IsGivenIn, IsLanding, LandsBy, LookEnds, LooksFrom}
+use Rattle.block_device.specs.Tags.{free_tag}
 use Rattle.block_device.specs.Hosting.{CompletesIn, HasStatusAt, wants_stable}
 use Rattle.block_device.specs.Operation.{operation_of, runs_for}
 use Rattle.block_device.proofs.Unasked.{any_disk, honest_host_serves}

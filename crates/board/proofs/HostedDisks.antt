@@ -10,7 +10,8 @@ use Rattle.block_device.specs.declared.device.BlockDevice.{BlockDevice}
 use Rattle.block_device.specs.declared.operation.HostEvent.{HostEvent}
 use Rattle.block_device.specs.declared.operation.HostEvent.TheVariants.{Complete, Drop, Hold, Release}
 use Rattle.block_device.specs.declared.operation.Verdict.{Verdict}
-use Rattle.block_device.specs.Flights.{InFlight, freed, given_up, is_any}
+use Rattle.block_device.specs.Flights.{InFlight, given_up}
+use Rattle.block_device.specs.Tags.{freed, is_any}
 use Rattle.hosted_disk.specs.Disk.{HostedDisk, LooksUnless}
 use Rattle.hosted_disk.specs.Told.{has_effect}
 use Rattle.device_list.specs.Device.{DeviceState, Told}

@@ -2,7 +2,7 @@
 use Rattle.std.proofs.Common.{◌≡◌, ◌≢◌, ◌⊎◌, inl, inr, ℕ, zero, Bool, true, false, Option, Some, None, List, [], refl, sym, ◌∙◌, ap, subst, append-nil}
 use Rattle.std.specs.Prelude.{◌&&◌, ◌||◌, if◌then◌else◌, IfErr, IsSome, OnErr, OnOk, Ok, Err, Result, is_some}
 use Rattle.chain.specs.declared.budget.Budget.{Budget}
-use Rattle.block_device.specs.Flights.{is_any}
+use Rattle.block_device.specs.Tags.{is_any}
 use Rattle.board.specs.declared.event.SlotWindow.{SlotWindow}
 use Rattle.board.specs.declared.event.SlotWindow.TheVariants.{Block}
 use Rattle.console_device.specs.Input.{fitting}
@@ -30,7 +30,7 @@ use Rattle.board.specs.Saved.{IsCauseOf, IsRestored}
 use Rattle.board.specs.declared.saved.RestoreFault.{RestoreFault}
 use Rattle.board.specs.declared.saved.RestoreRefusal.{RestoreRefusal}
 use Rattle.board.specs.declared.saved.RestoreRefusal.TheVariants as refusal
-use Rattle.board.specs.Slot.{BoardSlot, SlotState, state_of}
+use Rattle.board.specs.Slot.{KeepsPlace, BoardSlot, SlotState, state_of}
 use Rattle.device_list.specs.List.{are_at_work}
 use Rattle.board.proofs.Restoring.{restore_given, restore_waits}
 use Rattle.board.specs.Task.{Task, PutOut, Serve, task_of}
@@ -103,6 +103,10 @@ pub input_passes : (A : Type 0) (host : Option HostDisk) (bytes : List ℕ) (sta
 input_passes A host bytes state =
     no_part {A = A} host (Input bytes) state refl (no_wait (is_any (tags_in state.host))) refl
 
+-- of a slot of which only memory and devices change the sectors lie where they did
+place_of : (old new : BoardSlot) → new ≡ record old { memory = new.memory; devices = new.devices } → KeepsPlace old new
+place_of old new rest = (ap (λ (s : BoardSlot). s.extent) rest, ap (λ (s : BoardSlot). s.spare) rest)
+
 -- in what is done to a further device it has none
 pub device_quiet : {A : Type 0} (n : ℕ) (what : DeviceEvent A) (old new : BoardSlot) (reply : Reply A)
     → reply ≢ NoMemory → DoesToDevice n what old new reply → AnswersQuietly old (Device n what) new reply
@@ -111,7 +115,7 @@ device_quiet n what old new reply answered does = record {
       passes_by old.host (state_of image old) (Device n what) health (replies (state_of image new) reply)
       (no_part old.host (Device n what) (state_of image old) refl (no_wait (is_any (tags_in old.host))) refl)
       (does.given image health);
-  extent = ap (λ (s : BoardSlot). s.extent) does.rest;
+  place = place_of old new does.rest;
   disturbed = ap (λ (s : BoardSlot). s.disturbed) does.rest;
   answered = answered;
 }
@@ -165,7 +169,7 @@ device_begins n what budget old new turn answered does = record {
       begins_passing (Device n what) budget (state_of image old) health (state_of image new) [] turn
       (no_part old.host (Device n what) (state_of image old) refl (no_wait (is_any (tags_in old.host))) refl)
       (does.begins image health);
-  extent = ap (λ (s : BoardSlot). s.extent) does.rest;
+  place = place_of old new does.rest;
   disturbed = ap (λ (s : BoardSlot). s.disturbed) does.rest;
   limited = does.limited;
   there = does.there;
@@ -184,7 +188,7 @@ input_begins {A} bytes budget old new turn comes rest limited took = record {
   begins = λ image health.
       begins_passing (Input bytes) budget (state_of image old) health (state_of image new) [] turn
       (input_passes A old.host bytes (state_of image old)) (comes image health);
-  extent = ap (λ (s : BoardSlot). s.extent) rest;
+  place = (ap (λ (s : BoardSlot). s.extent) rest, ap (λ (s : BoardSlot). s.spare) rest);
   disturbed = ap (λ (s : BoardSlot). s.disturbed) rest;
   limited = limited;
   there = λ bad. elim took [ inl is ↦ absurd (cc (is, bad)) | inr is ↦ absurd (cc (is, bad)) ];

@@ -1,6 +1,6 @@
 -- What no event changes: an identity, and over an image who has a guest's disk. Only a restore changes whether the
 -- slot is on hold, and only that and what is done to them the further devices.
-use Rattle.std.proofs.Common.{◌≡◌, inl, inr, ℕ, List, [], ◌∷◌, refl, sym, ap, ◌∙◌, true}
+use Rattle.std.proofs.Common.{◌≡◌, inl, inr, ℕ, List, [], ◌∷◌, refl, sym, ap, subst, ◌∙◌, true}
 use Rattle.std.specs.Prelude.{⊤}
 use Rattle.std.proofs.Math.Seq.{map-set_same}
 use Rattle.board.specs.declared.event.SlotWindow.{SlotWindow}
@@ -11,7 +11,10 @@ use Rattle.board.specs.declared.event.EventKind.TheVariants.{Write, MemRead, Mem
 use Rattle.board.specs.declared.reply.Record.{Record}
 use Rattle.board.specs.declared.pause.Service.TheVariants as service
 use Rattle.board.specs.Hosting.{IsNoRestore, notifies_block}
+use Rattle.guest_memory.specs.Memory.{Memory}
+use Rattle.device_list.specs.Device.{DeviceState}
 use Rattle.board.specs.Image.{Health}
+use Rattle.board.specs.ImageDisks.{image_asked}
 use Rattle.board.specs.Line.{Move, IsLine}
 use Rattle.board.specs.Machine.{task_at, with_write}
 use Rattle.board.specs.Outcome.{Outcome}
@@ -19,11 +22,12 @@ use Rattle.board.specs.Slot.{SlotState}
 use Rattle.board.specs.Task.{Task, Nothing, Serve, PutOut, Finishes}
 use Rattle.board.specs.World.{World, MayGive, Step, identities_of}
 use Rattle.std.proofs.lemmas.Option.{get_or_from_slice_get}
+use Rattle.board.proofs.AtDevice.{by_image}
 use Rattle.board.proofs.FurtherDevices.{device_rest}
 use Rattle.board.proofs.Replies.{of_read, of_write}
 use Rattle.device_list.specs.List.{are_at_work}
 use Rattle.board.proofs.Restoring.{restored_host, restored_named}
-use Rattle.board.proofs.Refusals.{Failed, Unput, Unread, Unsent, was_refused}
+use Rattle.board.proofs.Refusals.{Failed, FailedImage, Unput, Unread, Unsent, was_refused}
 use Rattle.board.specs.Machine.{GivesOverImage, readied}
 use Rattle.board.specs.World.{MayGiveOverImage}
 use Rattle.board.proofs.Seats.{by_slot}
@@ -91,6 +95,16 @@ finished_fixed (Serve service.Block) state old new outcome h =
 finished_fixed (Serve (service.Further n q)) state old new outcome h = absurd h
 finished_fixed _ state old new outcome h = fixed state outcome _ h.is refl refl refl (λ beside. refl)
 
+-- what a further disk over the image leaves
+image_fixed : {Keeps : Type 0} (state new : SlotState) (memory : Memory) (bytes : List ℕ) (devices : List DeviceState)
+    → new ≡ record state { memory = memory; spare_bytes = bytes; devices = devices } → Fixed Keeps ⊥ state new
+image_fixed state new memory bytes devices is = record {
+  identity = ap (λ (s : SlotState). s.identity) is;
+  host = ap (λ (s : SlotState). s.host) is;
+  on_hold = λ keeps. ap (λ (s : SlotState). s.on_hold) is;
+  devices = λ beside. absurd beside;
+}
+
 -- an event of a slot over an image
 served_fixed : {A : Type 0} (state : SlotState) (what : EventKind A) (old new : Health) (outcome : Outcome A)
     → GivesOverImage state what old new outcome → Fixed (IsNoRestore what) (IsBesideDevices what) state outcome.state
@@ -113,16 +127,22 @@ served_fixed state (Restore bytes) old new outcome h = record {
   devices = λ beside. absurd beside;
 }
 served_fixed state (Device n what) old new outcome h =
-    fixed state outcome _ (device_rest n what state old new outcome h) refl refl refl (λ beside. absurd beside)
+    by_image n what state old new outcome (image_asked n what state)
+    (λ none given. fixed state outcome _ (device_rest n what state old new outcome given) refl refl refl
+    (λ beside. absurd beside))
+    (λ disk asked served. image_fixed state outcome.state _ _ _ served.serves.is) h
 served_fixed state _ old new outcome h = fixed state outcome _ h.alike refl refl refl (λ beside. refl)
 
 pub given_fixed : {A : Type 0} (state : SlotState) (what : EventKind A) (old new : Health)
     (outcome : Outcome A) → MayGiveOverImage state what old new outcome
     → Fixed (IsNoRestore what) (IsBesideDevices what) state outcome.state
 given_fixed state what old new outcome (inl h) = served_fixed state what old new outcome h.alike
-given_fixed state what old new outcome (inr h) =
+given_fixed {A} state what old new outcome (inr h) =
     elim (was_refused state what old new outcome h) [
       | Failed block h ↦ fixed state outcome _ h.service.is refl refl refl (λ beside. refl)
+      | FailedImage n disk asked is by h ↦
+          subst (λ (k : EventKind A). Fixed (IsNoRestore k) (IsBesideDevices k) state outcome.state) (sym is)
+          (image_fixed state outcome.state _ _ _ h.service.serves.is)
       | Unsent console puts h ↦ fixed state outcome _ h.is refl refl refl (λ beside. refl)
       | Unput console puts h ↦ fixed state outcome _ h.alike refl refl refl (λ beside. refl)
       | Unread is h ↦ fixed state outcome _ h.alike refl refl refl (λ beside. refl)

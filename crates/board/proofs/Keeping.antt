@@ -1,5 +1,5 @@
 -- What stays of a slot whose block event met an image that failed.
-use Rattle.std.proofs.Common.{◌≡◌, inl, inr, ℕ, zero, suc, ◌+◌, ◌*◌, ◌<◌, ◌≤◌, Bool, true, false, Option, Some, None, List, [], ◌∷◌, ◌++◌, length, replicate, take, refl, sym, ap, subst, ◌∙◌, arith, length-append, length-take}
+use Rattle.std.proofs.Common.{◌≡◌, ◌⊎◌, inl, inr, ℕ, zero, suc, ◌+◌, ◌*◌, ◌<◌, ◌≤◌, Bool, true, false, Option, Some, None, List, [], ◌∷◌, ◌++◌, length, replicate, take, refl, sym, ap, subst, ◌∙◌, arith, length-append, length-take}
 use Rattle.std.specs.Prelude.{if◌then◌else◌, slice_set, MatchOption}
 use Rattle.std.specs.List.{AllByRecursion, slice_get}
 use Rattle.std.proofs.lemmas.List.{length-replicate}
@@ -16,6 +16,7 @@ use Rattle.board.specs.declared.event.SlotWindow.TheVariants.{Console}
 use Rattle.mmio_window.specs.declared.queue.Queue.{Queue}
 use Rattle.mmio_window.specs.Queue.{queue_kind}
 use Rattle.mmio_window.specs.Window.{WindowState, queue_at}
+use Rattle.device_list.specs.Device.{DeviceState}
 use Rattle.block_device.specs.declared.device.BlockDevice.{BlockDevice}
 use Rattle.block_device.specs.declared.request.Request.{Request}
 use Rattle.block_device.specs.declared.request.Request.TheVariants.{Rejected, Read, Write, Flush, GetId, WriteZeroes}
@@ -37,17 +38,20 @@ use Rattle.board.specs.declared.event.EventKind.{EventKind}
 use Rattle.board.specs.declared.event.EventKind.TheVariants as event
 use Rattle.board.specs.declared.reply.Reply.TheVariants.{BadSlot, NoMemory}
 use Rattle.board.specs.declared.reply.Record.{Record}
+use Rattle.board.specs.declared.event.DeviceEvent.{DeviceEvent}
 use Rattle.board.specs.Image.{Health, disk_with}
+use Rattle.board.specs.ImageDisks.{IsFailedAtImage, bytes_in, device_readied, image_asked, image_device}
 use Rattle.board.specs.Outcome.{Outcome as Came, replies}
-use Rattle.board.specs.Slot.{SlotState, KeepsBesideDisk, KeepsBesideTransmit}
+use Rattle.board.specs.Slot.{SlotState, KeepsBesideDisk, KeepsBesideFurtherDisk, KeepsBesideTransmit}
 use Rattle.board.specs.Task.{task_of, device_of}
 use Rattle.board.proofs.OnHost.{failing_over_image, lacking_over_image}
 use Rattle.board.specs.World.{World, IsFailedService, IsRefusedTransmit, IsCutShort, IsRefused, MayGive, MayGiveOverImage, SlotStep, MissingStep, Step, KeepsBoard}
 use Rattle.board.proofs.Alone.{slot_step}
+use Rattle.board.proofs.AtDevice.{IsLeftBy, image_left}
 use Rattle.board.proofs.Beside.{same_range}
 use Rattle.board.proofs.Chains.{kept}
 use Rattle.board.proofs.Lists.{get_set, set_same}
-use Rattle.board.proofs.Refusals.{Failed, Unput, Unread, Unsent, was_refused}
+use Rattle.board.proofs.Refusals.{Failed, FailedImage, Unput, Unread, Unsent, was_refused}
 use Rattle.board.proofs.Writes.{notified_left}
 
 -- ---- a request keeps how many bytes the disk tells
@@ -213,20 +217,52 @@ service_beside {A} old before after outcome h =
       extent = ap (λ (bs : List ℕ). length bs) same ∙ many.size;
     }
 
+-- and of a further disk over the image
+image_beside : {A : Type 0} (n : ℕ) (asked : DeviceEvent A) (state : SlotState) (disk : BlockDevice)
+    (before after : Health) (outcome : Came A) → image_asked n asked state ≡ Some disk
+    → IsFailedAtImage n disk (device_readied n asked state) before after outcome
+    → KeepsBesideFurtherDisk state outcome.state
+image_beside n asked state disk before after outcome by h =
+    let s = h.service.serves in
+    let left : IsLeftBy n state.devices outcome.state.devices disk =
+    image_left n asked state outcome.state disk _ before after by s in
+    record {
+      number = n;
+      before = left.before;
+      after = left.after;
+      disk = disk;
+      there = left.there;
+      is_disk = left.is_disk;
+      model = left.model;
+      rest = s.is ∙ ap (λ (l : List DeviceState).
+          record state { memory = outcome.state.memory; spare_bytes = outcome.state.spare_bytes; devices = l })
+          (sym (ap (λ (t : SlotState). t.devices) s.is) ∙ left.is);
+      outside = s.outside;
+      memory =
+          notified_range (block_device (image_device disk)) 0 (queue_at 0 s.device.window) s.serves.ending
+          state.memory outcome.state.memory s.device.window s.window (disk_with (bytes_in disk state.spare_bytes) before)
+          (disk_with (bytes_in disk outcome.state.spare_bytes) after) s.serves.notified;
+    }
+
 never : (before after : Health) → before.failures < after.failures → after ≡ before → ⊥
 never before after rose is = let same : after.failures ≡ before.failures =
     ap (λ (h : Health). h.failures) is in omega arith
 
+-- one of its disks over the image
+abbrev KeepsBesideOne : SlotState → SlotState → Type 0
+KeepsBesideOne old new = KeepsBesideDisk old new ⊎ KeepsBesideFurtherDisk old new
+
 beside_over_image : {A : Type 0} (state : SlotState) (what : EventKind A) (before after : Health)
     (outcome : Came A) → before.failures < after.failures → MayGiveOverImage state what before after outcome
-    → KeepsBesideDisk state outcome.state
+    → KeepsBesideOne state outcome.state
 beside_over_image state what before after outcome rose (inl h) = let same : after.failures ≡ before.failures =
     h.failures in absurd (omega arith)
 beside_over_image state what before after outcome rose (inr h) =
     elim (was_refused state what before after outcome h) [
       | Failed block h ↦
           let kept = service_beside (record state { block = block }) before after outcome h in
-          record { rest = kept.rest; memory = kept.memory; extent = kept.extent }
+          inl (record { rest = kept.rest; memory = kept.memory; extent = kept.extent })
+      | FailedImage n disk asked is by h ↦ inr (image_beside n asked state disk before after outcome by h)
       | Unsent console puts h ↦ absurd (never before after rose h.image)
       | Unput console puts h ↦ absurd (never before after rose h.image)
       | Unread is h ↦ absurd (never before after rose h.image)
@@ -234,7 +270,7 @@ beside_over_image state what before after outcome rose (inr h) =
 
 given_beside : {A : Type 0} (state : SlotState) (what : EventKind A) (before after : Health)
     (outcome : Came A) → before.failures < after.failures → MayGive state what before after outcome
-    → KeepsBesideDisk state outcome.state
+    → KeepsBesideOne state outcome.state
 given_beside state what before after outcome rose h =
     elim (failing_over_image state what before after outcome h) [
       | inl given ↦ beside_over_image state what before after outcome rose given
@@ -256,12 +292,12 @@ left_as old new e written before after taken here there =
 pub failed_event_keeps : {A : Type 0} (old new : World) (e : Event A) (written : Record A)
     (before after : SlotState) → Step old e written new → old.health.failures < new.health.failures
     → slice_get old.slots e.slot ≡ Some before → slice_get new.slots e.slot ≡ Some after
-    → KeepsBesideDisk before after
+    → KeepsBesideOne before after
 failed_event_keeps {A} old new e written before after step rose here there =
     let taken : SlotStep old e.slot before e.what written new =
     slot_step old e written new before here step in
     let same = left_as old new e written before after taken here there in
-    subst (λ (s : SlotState). KeepsBesideDisk before s) same
+    subst (λ (s : SlotState). KeepsBesideOne before s) same
     (given_beside before e.what old.health new.health taken.outcome rose taken.given)
 
 -- each request counts one failure at most
@@ -381,6 +417,8 @@ lacks_over_image state what old new outcome lacks (inr h) =
     elim (was_refused state what old new outcome h) [
       -- the block device is never without memory
       | Failed block h ↦ let said = sym (ap (λ o. o.reply) h.service.is) ∙ lacks in absurd (cc said)
+      | FailedImage n disk asked is by h ↦
+          let said = sym (ap (λ o. o.reply) h.service.is) ∙ lacks in absurd (cc said)
       | Unsent console puts h ↦
           let kept = transmit_beside (record state { console = console }) old new outcome h in
           record { slot = record { rest = kept.rest; memory = kept.memory }; image = h.image }

@@ -22,7 +22,8 @@ use Rattle.block_device.specs.declared.request.RequestStatus.TheVariants.{Succes
 use Rattle.block_device.specs.Asking.{EndsUnasked, asks_image, status_by, unasked_device}
 use Rattle.block_device.specs.Device.{GivesBy}
 use Rattle.block_device.specs.Durable.{Completion, IsCommitted, IsUnwritten, KeepsWordIn, Medium, ends_by_flush}
-use Rattle.block_device.specs.Flights.{InFlight, LandsBy, is_any}
+use Rattle.block_device.specs.Flights.{InFlight, LandsBy}
+use Rattle.block_device.specs.Tags.{is_any}
 use Rattle.block_device.specs.Request.{code_of, request_of}
 use Rattle.block_device.proofs.Durable.{word_lasts}
 use Rattle.board.specs.declared.event.EventKind.{EventKind}

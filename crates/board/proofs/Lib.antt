@@ -2,7 +2,9 @@ pub mod Guests
 pub mod Saving
 pub mod Restoring
 pub mod OneRun
+pub mod Parts
 pub mod Blocks
+pub mod AtDevice
 pub mod FurtherDevices
 pub mod FurtherPieces
 pub mod FurtherBegins
@@ -31,6 +33,7 @@ pub mod Identities
 pub mod Alike
 pub mod Pieces
 pub mod Turns
+pub mod ImageDisks
 pub mod Whole
 pub mod Answered
 pub mod Belonging

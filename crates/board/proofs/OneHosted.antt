@@ -1,7 +1,8 @@
 -- An event of a guest whose disk the host serves has one outcome, where those beside the disk have.
 use Rattle.std.proofs.Common.{◌≡◌, Bool, true, false, ℕ, Option, Some, None, get_or, sym, ap, subst, ◌∙◌}
 use Rattle.block_device.specs.declared.operation.Verdict.{Verdict}
-use Rattle.block_device.specs.Flights.{HostedQueue, InFlight, is_any}
+use Rattle.block_device.specs.Flights.{HostedQueue, InFlight}
+use Rattle.block_device.specs.Tags.{is_any}
 use Rattle.hosted_disk.proofs.One.{land_queue, unless_queue}
 use Rattle.board.specs.declared.event.EventKind.{EventKind}
 use Rattle.block_device.specs.declared.operation.HostEvent.{HostEvent}

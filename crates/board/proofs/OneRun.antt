@@ -1,5 +1,9 @@
 -- The one-slot machine is deterministic, and how its image fared before an event is never seen.
 use Rattle.std.proofs.Common.{◌≡◌, ℕ, Bool, true, false, Option, Some, None, List, [], refl, sym, ◌∙◌, ap, subst}
+use Rattle.std.specs.Prelude.{slice_set}
+use Rattle.std.proofs.lemmas.Option.{same_Some}
+use Rattle.mmio_window.specs.Serving.{IsNotified}
+use Rattle.device_list.specs.Device.{DeviceState}
 use Rattle.guest_memory.specs.Memory.{Memory}
 use Rattle.chain.specs.Service.{Site, HasAtMostOneAnswer}
 use Rattle.chain.proofs.Servicing.{at_most_one_service, never_refused}
@@ -26,10 +30,12 @@ use Rattle.board.specs.declared.pause.Service.TheVariants.{Block, Receive, Trans
 use Rattle.board.specs.Backing.{HostDisk}
 use Rattle.board.specs.Hosting.{HostOrGives, LooksOrGives, OwnGives, is_block_task, notifies_block, told_in, waits_now}
 use Rattle.board.specs.Image.{Health, disk_with}
+use Rattle.board.specs.ImageDisks.{GivesAtDevice, IsImageDiskService, bytes_in, device_readied, image_asked, image_device}
 use Rattle.board.specs.Machine.{task_at, with_write, with_input, Gives, GivesBy, GivesOverImage, IsNext, IsToldAlone, RunsOnItsOwn, record_of, at_rest}
 use Rattle.board.specs.Outcome.{Outcome, replies, does}
 use Rattle.board.specs.Slot.{SlotState}
 use Rattle.board.specs.Task.{Task, Nothing, Serve, PutOut, device_of, IsBlockService, IsReceiveService, IsTransmitService, Finishes}
+use Rattle.board.proofs.AtDevice.{asked_hosted, outside_once, serves_at_rest}
 use Rattle.board.proofs.FurtherDevices.{device_anyhow, device_once}
 use Rattle.board.proofs.Guests.{AtRest, exact_at_rest}
 use Rattle.board.proofs.OneHosted.{hosted_once}
@@ -75,7 +81,22 @@ rests_over_image state (Write window offset width value) before after outcome h 
 rests_over_image state (Input bytes) before after outcome h =
     record { after = at_rest; gives = record { notified = h.notified; is = h.is; image = refl } }
 rests_over_image state (event.Device n what) before after outcome h =
-    record { after = at_rest; gives = device_anyhow n what state before after at_rest outcome h }
+    by_asked (image_asked n what state) refl h
+  where
+    by_asked : (found : Option BlockDevice) → image_asked n what state ≡ found
+        → GivesAtDevice found n what state before after outcome → RestsOverImage state (event.Device n what) outcome
+    by_asked None none given = record {
+      after = at_rest;
+      gives = subst (λ (f : Option BlockDevice). GivesAtDevice f n what state at_rest at_rest outcome) (sym none)
+          (device_anyhow n what state before after at_rest outcome given);
+    }
+    by_asked (Some disk) asked served =
+        let rested = serves_at_rest n disk (device_readied n what state) before after outcome served in
+        record {
+          after = rested.health;
+          gives = subst (λ (f : Option BlockDevice). GivesAtDevice f n what state at_rest rested.health outcome) (sym asked)
+              rested.service;
+        }
 rests_over_image state _ before after outcome h =
     record { after = at_rest; gives = record { alike = h.alike; image = refl } }
 
@@ -89,17 +110,20 @@ task_beside (PutOut byte) old health outcome quiet h = record { alike = h.alike;
 task_beside (Serve (Further n q)) old health outcome quiet h = absurd h
 task_beside _ old health outcome quiet h = record { notified = h.notified; is = h.is; image = refl }
 
-rests_beside : {A : Type 0} (state : SlotState) (what : EventKind A) (health : Health) (outcome : Outcome A)
-    → notifies_block what state ≡ false → GivesOverImage state what health health outcome
+rests_beside : {A : Type 0} (state : SlotState) (own : HostDisk) (what : EventKind A) (health : Health) (outcome : Outcome A)
+    → state.host ≡ Some own → notifies_block what state ≡ false → GivesOverImage state what health health outcome
     → GivesOverImage state what at_rest at_rest outcome
-rests_beside state (Write window offset width value) health outcome quiet h =
+rests_beside state own (Write window offset width value) health outcome hosted quiet h =
     task_beside (task_at window offset width value state) (with_write window offset width value state)
     health outcome quiet h
-rests_beside state (Input bytes) health outcome quiet h =
+rests_beside state own (Input bytes) health outcome hosted quiet h =
     record { notified = h.notified; is = h.is; image = refl }
-rests_beside state (event.Device n what) health outcome quiet h =
-    device_anyhow n what state health health at_rest outcome h
-rests_beside state _ health outcome quiet h =
+rests_beside {A} state own (event.Device n what) health outcome hosted quiet h =
+    let none = asked_hosted n what state own hosted in
+    subst (λ (f : Option BlockDevice). GivesAtDevice f n what state at_rest at_rest outcome) (sym none)
+    (device_anyhow n what state health health at_rest outcome
+    (subst (λ (f : Option BlockDevice). GivesAtDevice f n what state health health outcome) none h))
+rests_beside state own _ health outcome hosted quiet h =
     record { alike = h.alike; image = refl }
 
 -- an event comes out so where the disk has no part in it, and so of a guest whose disk the host serves
@@ -140,7 +164,7 @@ next_by {A} (Some disk) state what before after outcome is h =
       gives = subst (λ (k : Option HostDisk). GivesBy k state what at_rest at_rest outcome) (sym is) (record {
         gives = on_host_as (λ (o : Outcome A). GivesOverImage state what before before o)
             (λ (o : Outcome A). GivesOverImage state what at_rest at_rest o) state what outcome
-            (λ quiet given. rests_beside state what before outcome quiet given) h.gives;
+            (λ quiet given. rests_beside state disk what before outcome is quiet given) h.gives;
         image = refl;
       });
     }
@@ -201,6 +225,44 @@ block_once device old h k one other a b =
     a.is ∙ (ap does (same_block old one.state.memory other.state.memory one.state.extent other.state.extent
     one.state.block other.state.block end.memory (cc contents) end.window) ∙ sym b.is)
 
+-- a further disk over the image
+abbrev with_image : SlotState → Memory → List ℕ → List DeviceState → SlotState
+with_image state memory bytes devices = record state { memory = memory; spare_bytes = bytes; devices = devices }
+
+same_image : (state : SlotState) (m n : Memory) (x y : List ℕ) (v w : List DeviceState) → m ≡ n → x ≡ y → v ≡ w
+    → with_image state m x v ≡ with_image state n y w
+same_image state m n x y v w p q r = rw (p, q, r) refl
+
+image_once : {A : Type 0} (n : ℕ) (disk : BlockDevice) (old : SlotState) (h k : Health) (one other : Outcome A)
+    → IsImageDiskService (exact_device (image_device disk)) n disk old at_rest h one
+    → IsImageDiskService (exact_device (image_device disk)) n disk old at_rest k other → one ≡ other
+image_once {A} n disk old h k one other a b =
+    let x = a.serves in
+    let y = b.serves in
+    let same : y.device ≡ x.device = same_Some y.device x.device (sym y.there ∙ x.there) in
+    let device = exact_device (image_device disk) in
+    let bytes = bytes_in disk old.spare_bytes in
+    let again : IsNotified device 0 (queue_at 0 x.device.window) old.memory other.state.memory x.device.window y.window
+    (disk_with bytes at_rest) (disk_with (bytes_in disk other.state.spare_bytes) k) =
+    subst (λ (d : DeviceState). IsNotified device 0 (queue_at 0 d.window) old.memory other.state.memory d.window y.window
+    (disk_with bytes at_rest) (disk_with (bytes_in disk other.state.spare_bytes) k)) same y.serves in
+    let end : SameEnd one.state.memory other.state.memory x.window y.window
+    (disk_with (bytes_in disk one.state.spare_bytes) h) (disk_with (bytes_in disk other.state.spare_bytes) k) =
+    one_end device 0 (queue_at 0 x.device.window) old.memory one.state.memory other.state.memory x.device.window x.window
+    y.window (disk_with bytes at_rest) (disk_with (bytes_in disk one.state.spare_bytes) h)
+    (disk_with (bytes_in disk other.state.spare_bytes) k) (one_block (image_device disk) bytes at_rest) x.serves again in
+    let contents : Some (bytes_in disk one.state.spare_bytes) ≡ Some (bytes_in disk other.state.spare_bytes) =
+    ap (λ (d : Disk). d.contents) end.state in
+    let part : bytes_in disk one.state.spare_bytes ≡ bytes_in disk other.state.spare_bytes = cc contents in
+    let spare : one.state.spare_bytes ≡ other.state.spare_bytes =
+    outside_once disk.extent old.spare_bytes one.state.spare_bytes other.state.spare_bytes x.outside y.outside part in
+    let devices : slice_set old.devices n (record x.device { window = x.window })
+    ≡ slice_set old.devices n (record y.device { window = y.window }) =
+    rw (same, end.window) refl in
+    a.is ∙ (ap does (x.is ∙ same_image old one.state.memory other.state.memory one.state.spare_bytes other.state.spare_bytes
+    (slice_set old.devices n (record x.device { window = x.window }))
+    (slice_set old.devices n (record y.device { window = y.window })) end.memory spare devices ∙ sym y.is) ∙ sym b.is)
+
 -- a slot with another memory, console window and pending input
 abbrev with_console : SlotState → Memory → WindowState → List ℕ → SlotState
 with_console state memory console pending =
@@ -260,7 +322,12 @@ over_image_once state (Input bytes) h k one other a b =
     received_once (with_input bytes state) (Took (fitting state.pending bytes)) h k one other a b
 over_image_once state (Restore bytes) h k one other a b =
     unless_once (are_at_work state.devices) state bytes one other a.alike b.alike
-over_image_once state (event.Device n what) h k one other a b = device_once n what state at_rest h k one other a b
+over_image_once state (event.Device n what) h k one other a b = by_asked (image_asked n what state) a b
+  where
+    by_asked : (found : Option BlockDevice) → GivesAtDevice found n what state at_rest h one
+        → GivesAtDevice found n what state at_rest k other → one ≡ other
+    by_asked None a b = device_once n what state at_rest h k one other a b
+    by_asked (Some disk) a b = image_once n disk (device_readied n what state) h k one other a b
 over_image_once state _ h k one other a b = a.alike ∙ sym b.alike
 
 -- and whoever has the guest's disk

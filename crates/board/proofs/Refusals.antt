@@ -1,20 +1,24 @@
--- An event that was refused was so in one of four ways.
-use Rattle.std.proofs.Common.{◌⊎◌, inl, inr, ℕ, zero, suc, ◌%◌, ◌==◌, Bool, true, false}
+-- An event that was refused was so in one of five ways.
+use Rattle.std.proofs.Common.{◌≡◌, ◌⊎◌, inl, inr, refl, Some, ℕ, zero, suc, ◌%◌, ◌==◌, Bool, true, false}
 use Rattle.std.specs.Prelude.{if◌then◌else◌, ◌^◌, ⊤}
 use Rattle.mmio_window.specs.declared.action.Action.{Action}
 use Rattle.mmio_window.specs.declared.action.Action.TheVariants as action
 use Rattle.console_device.specs.Config.{emergency_write}
 use Rattle.board.specs.declared.event.SlotWindow.TheVariants.{Block, Console}
 use Rattle.mmio_window.specs.Window.{WindowState}
+use Rattle.block_device.specs.declared.device.BlockDevice.{BlockDevice}
+use Rattle.board.specs.declared.event.DeviceEvent.{DeviceEvent}
 use Rattle.board.specs.declared.event.EventKind.{EventKind}
 use Rattle.board.specs.declared.event.EventKind.TheVariants.{Write, MemRead, Device}
 use Rattle.board.specs.declared.reply.Reply.TheVariants.{NoMemory}
 use Rattle.board.specs.Image.{Health}
+use Rattle.board.specs.ImageDisks.{IsFailedAtImage, device_readied, image_asked}
 use Rattle.board.specs.Machine.{action_at, with_write}
 use Rattle.board.specs.Outcome.{Outcome, IsDetermined, replies}
 use Rattle.board.specs.Slot.{SlotState}
 use Rattle.board.specs.Task.{Nothing, PutOut, task_of}
 use Rattle.board.specs.Within.{IsPuttingOut, MayPutOut}
+use Rattle.board.proofs.AtDevice.{refused_by_image}
 use Rattle.board.specs.World.{IsCutShort, IsFailedService, IsRefused, IsRefusedTransmit}
 
 -- an event is no write of a window
@@ -22,12 +26,16 @@ abbrev IsNoWrite : {A : Type 0} → EventKind A → Type 0
 IsNoWrite (Write window offset width value) = ⊥
 IsNoWrite what = ⊤
 
--- Calls of the image failed; or there was no memory for the bytes of a chain, for one byte, for a read, or for what
+-- Calls of the image failed, in a service of the slot's own disk or of a further one; or there was no memory for the bytes of a chain, for one byte, for a read, or for what
 -- is done to a further device.
 pub data WasRefused {A : Type 0} (state : SlotState) (what : EventKind A) (old new : Health)
     (outcome : Outcome A) : Type 0 where
   Failed :
       (block : WindowState) → IsFailedService (record state { block = block }) old new outcome
+      → WasRefused state what old new outcome
+  FailedImage :
+      (n : ℕ) (disk : BlockDevice) (asked : DeviceEvent A) → what ≡ Device n asked → image_asked n asked state ≡ Some disk
+      → IsFailedAtImage n disk (device_readied n asked state) old new outcome
       → WasRefused state what old new outcome
   Unsent :
       (console : WindowState) → MayPutOut state what
@@ -89,5 +97,7 @@ was_refused state (Write Console offset width value) old new outcome h =
 was_refused state (MemRead addr len) old new outcome h =
     Unread tt (record { alike = h.unchanged; image = h.image })
 was_refused state (Device n what) old new outcome h =
-    Unread tt (record { alike = h.unchanged; image = h.image })
+    refused_by_image n what state old new outcome (image_asked n what state)
+    (λ none unmet. Unread tt (record { alike = unmet.unchanged; image = unmet.image }))
+    (λ disk asked failed. FailedImage n disk what refl asked failed) h
 was_refused state _ old new outcome h = absurd h

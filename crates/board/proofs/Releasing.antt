@@ -1,4 +1,8 @@
 -- A release makes up for a notification on hold, of each disk of a slot.
+use Rattle.block_device.specs.declared.device.BlockDevice.{BlockDevice}
+use Rattle.board.proofs.AtDevice.{image_found, write_of_other}
+use Rattle.board.specs.ImageDisks.{GivesAtDevice, image_asked}
+use Rattle.device_list.specs.List.{image_at}
 use Rattle.std.proofs.Common.{◌≡◌, inl, inr, ℕ, zero, ◌==◌, Bool, true, false, Option, Some, None, List, refl, sym, ◌∙◌, ap, subst}
 use Rattle.std.specs.Prelude.{IsSome, if◌then◌else◌, not, slice_set, ◌&&◌}
 use Rattle.std.specs.List.{slice_get}
@@ -12,12 +16,13 @@ use Rattle.mmio_window.specs.declared.action.Action.TheVariants.{Notify}
 use Rattle.mmio_window.specs.Window.{WindowState}
 use Rattle.mmio_window.specs.Writing.{action_of, written}
 use Rattle.block_device.specs.declared.operation.HostEvent.TheVariants.{Release}
-use Rattle.block_device.specs.Flights.{HostedQueue, IsLook, is_any}
+use Rattle.block_device.specs.Flights.{HostedQueue, IsLook}
+use Rattle.block_device.specs.Tags.{is_any}
 use Rattle.hosted_disk.specs.Disk.{HostedDisk, LooksUnless, queue_of}
 use Rattle.hosted_disk.proofs.One.{look_queue}
 use Rattle.device_list.specs.Device.{DeviceState, ServesNotified, Writes, notified_by, taking}
 use Rattle.device_list.specs.List.{At, waits_at}
-use Rattle.device_list.specs.Model.{Block, Console, Entropy, ModelState, Network, Serves, disk_of, must_wait}
+use Rattle.device_list.specs.Model.{Block, Console, Entropy, Image, ModelState, Network, Serves, disk_of, image_of, must_wait}
 use Rattle.board.specs.declared.event.DeviceEvent.{DeviceEvent}
 use Rattle.board.specs.declared.event.DeviceEvent.TheVariants.{Write}
 use Rattle.board.specs.declared.event.DeviceEvent.TheVariants as device
@@ -45,16 +50,21 @@ mapped f (Some x) some = refl
 
 given_over : {A P : Type 0} (host : Option HostDisk) (n : ℕ) (what : DeviceEvent A) (old : SlotState)
     (before after : Health) (outcome : Outcome A)
-    → ((one other : Health) → GivesDevice n what old one other outcome → P)
+    → image_asked n what old ≡ None → ((one other : Health) → GivesDevice n what old one other outcome → P)
     → GivesBy host old (Device n what) before after outcome → P
-given_over None n what old before after outcome over h = over before after h
-given_over {A} {P} (Some disk) n what old before after outcome over h = by_wait (is_any (tags_in old.host)) h.gives
+given_over {A} {P} None n what old before after outcome none over h =
+    over before after (subst (λ (f : Option BlockDevice). GivesAtDevice f n what old before after outcome) none h)
+given_over {A} {P} (Some disk) n what old before after outcome none over h = by_wait (is_any (tags_in old.host)) h.gives
   where
+    beside : GivesOverImage old (Device n what) before before outcome → P
+    beside h =
+        over before before (subst (λ (f : Option BlockDevice). GivesAtDevice f n what old before before outcome) none h)
+
     by_wait : (any : Bool)
         → OwnGives (λ (o : Outcome A). GivesOverImage old (Device n what) before before o) (any && false) old
         (Device n what) outcome → P
-    by_wait true h = over before before h
-    by_wait false h = over before before h
+    by_wait true h = beside h
+    by_wait false h = beside h
 
 -- ---- a further disk
 
@@ -63,6 +73,7 @@ is_block (Block other) disk is = ap Block (same_Some other disk is)
 is_block (Entropy pool) disk is = absurd (cc is)
 is_block (Network card) disk is = absurd (cc is)
 is_block (Console terminal) disk is = absurd (cc is)
+is_block (Image other) disk is = absurd (cc is)
 
 same_wait : (on_hold : Bool) (offset : ℕ) (model : ModelState)
     → must_wait offset (model_held on_hold model) ≡ must_wait offset model
@@ -173,10 +184,16 @@ module _ (n offset width value : ℕ) (old : SlotState) (d : DeviceState) (disk 
       (subst (λ (b : Bool). DoesIf (not b) (Writes offset width value) n old.memory outcome.state.memory
       (slot_so on_hold).devices outcome.state.devices) passes step.at) step.is
 
+  no_image : (on_hold : Bool) → image_at n (slot_so on_hold).devices ≡ None
+  no_image on_hold =
+      image_found n (slot_so on_hold).devices (device_so on_hold) (there_so on_hold)
+      ∙ ap (λ (m : ModelState). image_of (model_held on_hold m)) block
+
   next_so : {A : Type 0} (on_hold : Bool) (outcome : Outcome A)
       → IsNext (slot_so on_hold) (Device n (Write offset width value)) outcome → LookedSo on_hold outcome.state
-  next_so on_hold outcome next =
+  next_so {A} on_hold outcome next =
       given_over (slot_so on_hold).host n (Write offset width value) (slot_so on_hold) at_rest next.after outcome
+      (write_of_other A n offset width value (slot_so on_hold) (no_image on_hold))
       (λ one other h. given_so on_hold one other outcome h) next.gives
 
   abbrev held_unit : DiskUnit
@@ -213,7 +230,7 @@ module _ (n offset width value : ℕ) (old : SlotState) (d : DeviceState) (disk 
       → LookedSo false outcome.state
   released_so outcome next =
       let now = standing true noted in
-      given_over now.host n (device.Host Release) now at_rest next.after outcome
+      given_over now.host n (device.Host Release) now at_rest next.after outcome refl
       (λ one other h.
       said_so outcome.state (further_does n Release now held_unit one other outcome found_held refl h)) next.gives
 

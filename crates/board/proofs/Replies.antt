@@ -1,8 +1,12 @@
 -- Which replies an event of a slot may get.
-use Rattle.std.proofs.Common.{◌≡◌, inl, inr, ℕ, Bool, true, false, Some, List, length, sym, ap, subst, refl}
+use Rattle.std.proofs.Common.{◌≡◌, inl, inr, ℕ, Bool, true, false, Some, List, length, sym, ap, subst, refl, ◌∙◌}
 use Rattle.std.specs.Prelude.{if◌then◌else◌}
 use Rattle.guest_memory.specs.Memory.{is_inside, part_of, stored}
 use Rattle.board.specs.declared.event.SlotWindow.{SlotWindow}
+use Rattle.block_device.specs.declared.device.BlockDevice.{BlockDevice}
+use Rattle.board.specs.declared.event.DeviceEvent.{DeviceEvent}
+use Rattle.board.specs.declared.event.DeviceEvent.TheVariants as device
+use Rattle.board.specs.Devices.{MayReplyDevice}
 use Rattle.board.specs.declared.event.EventKind.{EventKind}
 use Rattle.block_device.specs.declared.operation.HostEvent.{HostEvent}
 use Rattle.block_device.specs.declared.operation.HostEvent.TheVariants.{Complete, Drop, Hold, Release}
@@ -10,10 +14,11 @@ use Rattle.board.specs.declared.event.EventKind.TheVariants.{Write, MemRead, Mem
 use Rattle.board.specs.declared.reply.Reply.{Reply}
 use Rattle.board.specs.declared.reply.Reply.TheVariants.{Done, Bytes, BadRange, BadState, Busy, Idle, NoMemory}
 use Rattle.board.specs.declared.pause.Service.TheVariants.{Block, Further}
-use Rattle.block_device.specs.Flights.{is_any}
+use Rattle.block_device.specs.Tags.{is_any}
 use Rattle.board.specs.Backing.{tags_in}
 use Rattle.board.specs.Hosting.{must_wait, notifies_block, told_in}
 use Rattle.board.specs.Image.{Health}
+use Rattle.board.specs.ImageDisks.{image_asked}
 use Rattle.board.specs.Machine.{memory_read, memory_written}
 use Rattle.board.specs.Outcome.{Outcome, does, replies}
 use Rattle.board.specs.Replies.{MayReply, MayReplyOverImage}
@@ -22,9 +27,10 @@ use Rattle.board.specs.Restoring.{RestoresUnless}
 use Rattle.board.specs.Slot.{SlotState}
 use Rattle.board.specs.Task.{Task, Nothing, Serve, PutOut, Finishes}
 use Rattle.board.specs.World.{MayGive, MayGiveOverImage}
+use Rattle.board.proofs.AtDevice.{IsWrite, asked_write, by_image, refused_by_image}
 use Rattle.board.proofs.FurtherDevices.{device_busy, device_idle, device_image, device_replies, unmet_replies}
 use Rattle.board.specs.Waiting.{waits_beside}
-use Rattle.board.proofs.Refusals.{Failed, Unput, Unread, Unsent, WasRefused, was_refused}
+use Rattle.board.proofs.Refusals.{Failed, FailedImage, Unput, Unread, Unsent, WasRefused, was_refused}
 use Rattle.board.proofs.Ways.{Drops, Holds, Lands, Looks, Passes, Releases, Rests, Waits, Way, by_disk, must_by}
 
 -- a task that is finished is done
@@ -83,7 +89,18 @@ refused_replies {A} window offset width value state old new outcome (Unsent cons
 refused_replies {A} window offset width value state old new outcome (Unput console puts h) =
     by_reply (Write window offset width value) outcome.reply NoMemory (ap (λ (o : Outcome A). o.reply)
     h.alike) tt
+refused_replies window offset width value state old new outcome (FailedImage n disk asked is by h) = absurd (cc is)
 refused_replies window offset width value state old new outcome (Unread is h) = absurd is
+
+-- a disk over the image that served is done
+done_may : {A : Type 0} (what : DeviceEvent A) → IsWrite what → MayReplyDevice what Done
+done_may (device.Write offset width value) is = tt
+done_may _ is = absurd is
+
+image_replies : {A : Type 0} (n : ℕ) (what : DeviceEvent A) (state : SlotState) (disk : BlockDevice) (outcome : Outcome A)
+    → image_asked n what state ≡ Some disk → outcome ≡ does outcome.state → MayReplyDevice what outcome.reply
+image_replies {A} n what state disk outcome asked is =
+    rw (ap (λ (o : Outcome A). o.reply) is) (done_may what (asked_write n what state disk asked))
 
 pub given_over_image : {A : Type 0} (state : SlotState) (what : EventKind A) (old new : Health)
     (outcome : Outcome A) → MayGiveOverImage state what old new outcome
@@ -107,9 +124,13 @@ given_over_image state (Write window offset width value) old new outcome (inr re
     (was_refused state (Write window offset width value) old new outcome refused)
 given_over_image {A} state (MemRead addr len) old new outcome (inr unread) = rw unread.unchanged tt
 given_over_image state (Device n what) old new outcome (inl served) =
-    device_replies n what state old new outcome served.alike
-given_over_image state (Device n what) old new outcome (inr unmet) =
-    unmet_replies n what state old new outcome unmet
+    by_image n what state old new outcome (image_asked n what state)
+    (λ none given. device_replies n what state old new outcome given)
+    (λ disk asked h. image_replies n what state disk outcome asked h.is) served.alike
+given_over_image state (Device n what) old new outcome (inr refused) =
+    refused_by_image n what state old new outcome (image_asked n what state)
+    (λ none unmet. unmet_replies n what state old new outcome unmet)
+    (λ disk asked h. image_replies n what state disk outcome asked h.service.is) refused
 given_over_image state _ old new outcome (inr never) = absurd never
 given_over_image state _ old new outcome (inl served) = rw served.alike.alike tt
 
@@ -123,6 +144,15 @@ busy_restore {A} false state bytes outcome (inl taken) is =
 busy_restore {A} false state bytes outcome (inr refused) is =
     let bad = ap (λ (o : Outcome A). o.reply) refused.1 in absurd (cc (bad, is))
 
+-- what is done is answered so, and what found no memory
+never_done : {A : Type 0} (outcome : Outcome A) (reply : Reply A) → outcome ≡ does outcome.state → outcome.reply ≡ reply
+    → ((Done ≡ reply) → ⊥) → ⊥
+never_done {A} outcome reply is said other = other (sym (ap (λ (o : Outcome A). o.reply) is) ∙ said)
+
+never_unmet : {A : Type 0} (state : SlotState) (outcome : Outcome A) (reply : Reply A) → outcome ≡ replies state NoMemory
+    → outcome.reply ≡ reply → ((NoMemory ≡ reply) → ⊥) → ⊥
+never_unmet {A} state outcome reply is said other = other (sym (ap (λ (o : Outcome A). o.reply) is) ∙ said)
+
 pub busy_over_image : {A : Type 0} (state : SlotState) (what : EventKind A) (old new : Health)
     (outcome : Outcome A) → MayGiveOverImage state what old new outcome → outcome.reply ≡ Busy
     → (outcome ≡ replies state Busy) × ((waits_beside what state ≡ true) × (new ≡ old))
@@ -131,10 +161,14 @@ busy_over_image state (Restore bytes) old new outcome (inl served) is =
     (waits.0, (waits.1, served.alike.image))
 busy_over_image state (Restore bytes) old new outcome (inr never) is = absurd never
 busy_over_image state (Device n what) old new outcome (inl served) is =
-    let waits = device_busy n what state old new outcome served.alike is in
-    (waits.0, (waits.1, device_image n what state old new outcome served.alike))
-busy_over_image {A} state (Device n what) old new outcome (inr unmet) is =
-    let none = ap (λ (o : Outcome A). o.reply) unmet.unchanged in absurd (cc (none, is))
+    by_image n what state old new outcome (image_asked n what state)
+    (λ none given. let waits = device_busy n what state old new outcome given is in
+    (waits.0, (waits.1, device_image n what state old new outcome given)))
+    (λ disk asked h. absurd (never_done outcome Busy h.is is (λ same. cc same))) served.alike
+busy_over_image state (Device n what) old new outcome (inr refused) is =
+    refused_by_image n what state old new outcome (image_asked n what state)
+    (λ none unmet. absurd (never_unmet state outcome Busy unmet.unchanged is (λ same. cc same)))
+    (λ disk asked h. absurd (never_done outcome Busy h.service.is is (λ same. cc same))) refused
 busy_over_image {A} state what old new outcome h is =
     absurd (subst (λ (r : Reply A). MayReplyOverImage what r) is (given_over_image state what old new outcome h))
 
@@ -144,12 +178,14 @@ pub idle_over_image : {A : Type 0} (state : SlotState) (what : EventKind A) (old
     → (outcome ≡ replies state Idle) × (new ≡ old)
 idle_over_image state (Host said) old new outcome (inl served) is = (served.alike.alike, served.alike.image)
 idle_over_image state (Host said) old new outcome (inr never) is = absurd never
-idle_over_image state (Device n what) old new outcome (inl served) is = (
-  device_idle n what state old new outcome served.alike is,
-  device_image n what state old new outcome served.alike,
-)
-idle_over_image {A} state (Device n what) old new outcome (inr unmet) is =
-    let none = ap (λ (o : Outcome A). o.reply) unmet.unchanged in absurd (cc (none, is))
+idle_over_image state (Device n what) old new outcome (inl served) is =
+    by_image n what state old new outcome (image_asked n what state)
+    (λ none given. (device_idle n what state old new outcome given is, device_image n what state old new outcome given))
+    (λ disk asked h. absurd (never_done outcome Idle h.is is (λ same. cc same))) served.alike
+idle_over_image state (Device n what) old new outcome (inr refused) is =
+    refused_by_image n what state old new outcome (image_asked n what state)
+    (λ none unmet. absurd (never_unmet state outcome Idle unmet.unchanged is (λ same. cc same)))
+    (λ disk asked h. absurd (never_done outcome Idle h.service.is is (λ same. cc same))) refused
 idle_over_image {A} state what old new outcome h is =
     absurd (subst (λ (r : Reply A). MayReplyOverImage what r) is (given_over_image state what old new outcome h))
 

@@ -16,7 +16,7 @@ use Rattle.board.specs.Outcome.{Outcome, does, replies}
 use Rattle.board.specs.Backing.{sectors_by}
 use Rattle.board.specs.Restoring.{IsRestoring, IsTakenUp, RestoresUnless, slot_in, taken_up_reply}
 use Rattle.board.specs.Saved.{IsCauseOf, IsPrevented, IsRestored, Prevents, Suits, SuitsBesideDevices, TakesUp}
-use Rattle.board.specs.Slot.{BoardSlot, SlotState, state_of}
+use Rattle.board.specs.Slot.{BoardSlot, SlotState, state_of, spare_start}
 use Rattle.board.specs.World.{MayGiveOverImage}
 use Rattle.board.proofs.Saving.{none_some, same_value}
 
@@ -112,8 +112,8 @@ cause_once slot bytes one (Snapshot other) a b = behind_prevented slot bytes one
 cause_once slot bytes one other a b = sym (behind_prevented slot bytes other one b a)
 
 -- what a guest can see of a slot whose disk has these bytes
-abbrev state_in : List ℕ → BoardSlot → SlotState
-state_in extent slot = record (state_of [] slot) { extent = extent }
+abbrev state_in : List ℕ → List ℕ → BoardSlot → SlotState
+state_in extent bytes slot = record (state_of [] slot) { extent = extent; spare_bytes = bytes }
 
 state_once : (state : SlotState) (bytes : List ℕ) (one other : SlotState) → IsTakenUp state bytes one
     → IsTakenUp state bytes other → one ≡ other
@@ -121,8 +121,10 @@ state_once state bytes one other a b =
     let slots : slot_in one ≡ slot_in other =
     slot_once (slot_in state) bytes (slot_in one) (slot_in other) a.restored b.restored in
     let extents : one.extent ≡ other.extent = a.extent ∙ sym b.extent in
-    ap (λ (slot : BoardSlot). state_in one.extent slot) slots
-    ∙ ap (λ (extent : List ℕ). state_in extent (slot_in other)) extents
+    let spares : one.spare_bytes ≡ other.spare_bytes = a.spare ∙ sym b.spare in
+    ap (λ (slot : BoardSlot). state_in one.extent one.spare_bytes slot) slots
+    ∙ (ap (λ (extent : List ℕ). state_in extent one.spare_bytes (slot_in other)) extents
+    ∙ ap (λ (bytes : List ℕ). state_in other.extent bytes (slot_in other)) spares)
 
 restored_once : {A : Type 0} (state : SlotState) (bytes : List ℕ) (one other : Outcome A)
     → IsRestoring state bytes one → IsRestoring state bytes other → one ≡ other
@@ -208,6 +210,7 @@ taken_in image slot new bytes counted h = record {
     };
   };
   extent = ap (λ (s : BoardSlot). extent_of image s.extent.start s.extent.count) h.takes_up.is;
+  spare = ap (λ (s : BoardSlot). extent_of image (spare_start s) s.spare) h.takes_up.is;
 }
 
 prevents_in : (image : List ℕ) (slot : BoardSlot) (saved : SavedSlot) (why : RestoreFault)

@@ -7,7 +7,7 @@ use Rattle.board.specs.declared.event.Event.{Event}
 use Rattle.board.specs.declared.reply.Reply.{Reply}
 use Rattle.board.specs.declared.reply.Reply.TheVariants.{BadSlot, NoMemory}
 use Rattle.board.specs.declared.reply.Record.{Record}
-use Rattle.board.specs.Slot.{BoardSlot}
+use Rattle.board.specs.Slot.{BoardSlot, whole_extent}
 use Rattle.board.specs.World.{BoardState, IsMissed, World, Step, Handles, Answers, KeepsOthers, bad_slot, record_with, extents_of}
 use Rattle.board.specs.Line.{AnswersMissing, Move, IsLine, IsQuiet, HadMemory, HasInterruptWords, IsRun, KeepsIdle, events_of, records_of}
 use Rattle.board.proofs.Alone.{alone, recorded_slot}
@@ -92,8 +92,7 @@ missing_more {A = A} slots now so_far after h reply out block console added many
     subst (λ (rs : List (Record A)). All P rs) (sym added) (All-push P so_far _ before is)
   where
     as_many : length now ≡ length slots
-    as_many = sym (length-map now (λ (s : BoardSlot). s.extent))
-        ∙ (ap length many ∙ length-map slots (λ (s : BoardSlot). s.extent))
+    as_many = sym (length-map now whole_extent) ∙ (ap length many ∙ length-map slots whole_extent)
 
     is : length slots ≤ h → record_with h reply out block console ≡ bad_slot {A = A} h
     is past = let away : length now ≤ h = omega (arith, as_many, past) in let missed = rest away in

@@ -1,6 +1,6 @@
 -- One slot's event, seen as a step of the whole board. Here the extents' being apart is used: what a
 -- slot's event does to the image stays within that slot's own.
-use Rattle.std.proofs.Common.{◌≡◌, ◌≢◌, ◌⊎◌, inl, inr, ℕ, zero, suc, ◌<◌, ◌≤◌, Bool, true, false, ◌||◌, List, [], ◌∷◌, length, map, Option, Some, None, get_or, refl, sym, ◌∙◌, ap, subst, append-nil, arith}
+use Rattle.std.proofs.Common.{◌≡◌, ◌≢◌, ◌⊎◌, inl, inr, ℕ, zero, suc, ◌+◌, ◌<◌, ◌≤◌, Bool, true, false, ◌||◌, List, [], ◌∷◌, length, map, Option, Some, None, get_or, refl, sym, ◌∙◌, ap, subst, append-nil, arith}
 use Rattle.std.proofs.Math.Bool.{or-true, or-false}
 use Rattle.std.specs.Prelude.{nat_lt, slice_set, MatchOption, All, AllPairs}
 use Rattle.std.specs.List.{slice_get, list_any}
@@ -24,62 +24,89 @@ use Rattle.board.specs.Machine.{block_irq, console_irq}
 use Rattle.board.specs.declared.pause.Turn.{Turn}
 use Rattle.board.specs.Image.{Health, bytes_of, health_of}
 use Rattle.board.specs.Pausing.{ServesTurn, TakesTurn, met_in}
-use Rattle.board.specs.Slot.{SlotState, BoardSlot, StaysInSlot, interrupt_words, state_of}
+use Rattle.board.specs.Slot.{SlotState, BoardSlot, KeepsPlace, StaysInSlot, interrupt_words, state_of, whole_extent}
 use Rattle.board.specs.World.{BoardState, World, SlotStep, MissingStep, StaysInExtents, Step, Serves, Handles, disturbed_of, extents_of, met_refusal, noted, seen}
 pub use Rattle.board.proofs.Lists.{others_kept, set_same}
 use Rattle.board.proofs.Outside.{outside_kept, outside_more, extent_apart}
+use Rattle.board.proofs.Parts.{part_of_run}
+
+-- a slot that keeps its place has the same sectors
+pub same_whole : (slot new : BoardSlot) → KeepsPlace slot new → whole_extent new ≡ whole_extent slot
+same_whole slot new same = rw (same.0, same.1) refl
 
 -- where a slot keeps its extent, all do
 pub extents_of-set : (slots : List BoardSlot) (h : ℕ) (slot new : BoardSlot) → slice_get slots h ≡ Some slot
-    → new.extent ≡ slot.extent → extents_of (slice_set slots h new) ≡ extents_of slots
+    → KeepsPlace slot new → extents_of (slice_set slots h new) ≡ extents_of slots
 extents_of-set slots h slot new here same =
-    map-set_same (λ (s : BoardSlot). s.extent) slots h new slot (same
-    ∙ ap (λ (s : BoardSlot). s.extent) (sym (get_or_from_slice_get slots h slot slot here)))
+    map-set_same whole_extent slots h new slot (same_whole slot new same
+    ∙ ap whole_extent (sym (get_or_from_slice_get slots h slot slot here)))
 
 -- and the board stays sound
 pub sound_set : (sectors : ℕ) (slots : List BoardSlot) (h : ℕ) (slot new : BoardSlot)
-    → new.extent ≡ slot.extent → slice_get slots h ≡ Some slot → AreSound sectors (extents_of slots)
+    → KeepsPlace slot new → slice_get slots h ≡ Some slot → AreSound sectors (extents_of slots)
     → AreSound sectors (extents_of (slice_set slots h new))
 sound_set sectors slots h slot new same here sound = rw (extents_of-set slots h slot new here same) sound
 
 -- each slot's extent lies in the image
 pub slot_within : (sectors : ℕ) (slots : List BoardSlot) (h : ℕ) (slot : BoardSlot)
-    → All (IsWithin sectors) (extents_of slots) → slice_get slots h ≡ Some slot → IsWithin sectors slot.extent
+    → All (IsWithin sectors) (extents_of slots) → slice_get slots h ≡ Some slot
+    → IsWithin sectors (whole_extent slot)
 slot_within sectors slots h slot within here =
-    let extent : BoardSlot → Extent = λ s. s.extent in
     let fits : h < length slots = slice_get_within slots h slot here in
-    rw (get_or-map extent slots h slot slot.extent fits, get_or_from_slice_get slots h slot slot here) at
-    (within h slot.extent (omega (arith, length-map slots extent)))
+    rw (get_or-map whole_extent slots h slot (whole_extent slot) fits, get_or_from_slice_get slots h slot slot here) at
+    (within h (whole_extent slot) (omega (arith, length-map slots whole_extent)))
+
+-- and the part of it that its own disk has
+pub own_within : (sectors : ℕ) (slot : BoardSlot) → IsWithin sectors (whole_extent slot) → IsWithin sectors slot.extent
+own_within sectors slot within = omega (arith, within)
 
 -- apart is apart from either side
 apart_sym : (one other : Extent) → IsApart one other → IsApart other one
 apart_sym one other apart sector = let never = apart sector in grind (arith, never)
 
+apart_ats : (slots : List BoardSlot) (h k : ℕ) (d : BoardSlot) → h < length slots → k < length slots
+    → IsApart (get_or (map whole_extent slots) h (whole_extent d)) (get_or (map whole_extent slots) k (whole_extent d))
+    → IsApart (whole_extent (get_or slots h d)) (whole_extent (get_or slots k d))
+apart_ats slots h k d fits fits' apart =
+    subst (λ (e : Extent). IsApart e (whole_extent (get_or slots k d)))
+    (get_or-map whole_extent slots h d (whole_extent d) fits)
+    (subst (λ (e : Extent). IsApart (get_or (map whole_extent slots) h (whole_extent d)) e)
+    (get_or-map whole_extent slots k d (whole_extent d) fits') apart)
+
 -- two slots of a board are apart
 slots_apart : (slots : List BoardSlot) → AllPairs IsApart (extents_of slots) → (h k : ℕ) (d : BoardSlot)
     → h < length slots → k < length slots → (h ≡ k) ⊎ ((h < k) ⊎ (k < h)) → h ≢ k
-    → IsApart (get_or slots h d).extent (get_or slots k d).extent
+    → IsApart (whole_extent (get_or slots h d)) (whole_extent (get_or slots k d))
 slots_apart slots apart h k d fits fits' (inl same) differ = absurd (differ same)
 slots_apart slots apart h k d fits fits' (inr (inl before)) differ =
-    let extent : BoardSlot → Extent = λ s. s.extent in
-    rw (← get_or-map extent slots h d d.extent fits, ← get_or-map extent slots k d d.extent fits')
-    (apart h k d.extent before (omega (arith, length-map slots extent)))
+    apart_ats slots h k d fits fits' (apart h k (whole_extent d) before (omega (arith, length-map slots whole_extent)))
 slots_apart slots apart h k d fits fits' (inr (inr behind)) differ =
-    let extent : BoardSlot → Extent = λ s. s.extent in
-    let other : IsApart (get_or slots k d).extent (get_or slots h d).extent =
-    rw (← get_or-map extent slots k d d.extent fits', ← get_or-map extent slots h d d.extent fits)
-    (apart k h d.extent behind (omega (arith, length-map slots extent))) in
-    apart_sym (get_or slots k d).extent (get_or slots h d).extent other
+    apart_sym (whole_extent (get_or slots k d)) (whole_extent (get_or slots h d))
+    (apart_ats slots k h d fits' fits (apart k h (whole_extent d) behind (omega (arith, length-map slots whole_extent))))
 
--- what a guest can see stays where the bytes of its extent do
-state_same : (slot : BoardSlot) (xs ys : List ℕ) → extent_of xs slot.extent.start slot.extent.count
-    ≡ extent_of ys slot.extent.start slot.extent.count → state_of xs slot ≡ state_of ys slot
-state_same slot xs ys same = ap (λ (bytes : List ℕ). record (state_of xs slot) { extent = bytes }) same
+-- what a guest can see stays where the bytes of its sectors do
+pub state_same : (slot : BoardSlot) (xs ys : List ℕ)
+    → extent_of xs (whole_extent slot).start (whole_extent slot).count
+    ≡ extent_of ys (whole_extent slot).start (whole_extent slot).count → state_of xs slot ≡ state_of ys slot
+state_same slot xs ys same =
+    let start = slot.extent.start in
+    let count = slot.extent.count in
+    let all = count + slot.spare in
+    let part : (first few : ℕ) → first + few ≤ all → extent_of xs (start + first) few ≡ extent_of ys (start + first) few =
+    λ first few inside. sym (part_of_run xs start all first few inside) ∙ ap (λ bs. extent_of bs first few) same
+    ∙ part_of_run ys start all first few inside in
+    let first : start ≡ start + 0 = omega arith in
+    let own : extent_of xs start count ≡ extent_of ys start count =
+    subst (λ k. extent_of xs k count ≡ extent_of ys k count) (sym first) (part 0 count (omega arith)) in
+    let spare : extent_of xs (start + count) slot.spare ≡ extent_of ys (start + count) slot.spare =
+    part count slot.spare (omega arith) in
+    ap (λ (bytes : List ℕ). record (state_of xs slot) { extent = bytes }) own
+    ∙ ap (λ (bytes : List ℕ). record (state_of xs slot) { extent = extent_of ys start count; spare_bytes = bytes }) spare
 
 -- one slot changed, and the image within that slot's extent alone: the states of all others stay
 states_set : (slots : List BoardSlot) (h : ℕ) (slot new : BoardSlot) (xs ys : List ℕ)
     → AllPairs IsApart (extents_of slots) → slice_get slots h ≡ Some slot
-    → outside_of (slot.extent ∷ []) xs ≡ outside_of (slot.extent ∷ []) ys
+    → outside_of (whole_extent slot ∷ []) xs ≡ outside_of (whole_extent slot ∷ []) ys
     → map (state_of ys) (slice_set slots h new) ≡ slice_set (map (state_of xs) slots) h (state_of ys new)
 states_set slots h slot new xs ys apart here same = map-set (state_of ys) slots h new
     ∙ same_lists _ _ long each
@@ -95,11 +122,11 @@ states_set slots h slot new xs ys apart here same = map-set (state_of ys) slots 
         → state_of ys (get_or slots k slot) ≡ state_of xs (get_or slots k slot)
     other k fits' differ =
         let slot_is : get_or slots h slot ≡ slot = get_or_from_slice_get slots h slot slot here in
-        let side : IsApart slot.extent (get_or slots k slot).extent =
+        let side : IsApart (whole_extent slot) (whole_extent (get_or slots k slot)) =
         rw slot_is at (slots_apart slots apart h k slot fits fits' (cases_order h k)
         (λ e. differ (sym e))) in
         state_same (get_or slots k slot) ys xs
-        (sym (extent_apart slot.extent (get_or slots k slot).extent side xs ys same))
+        (sym (extent_apart (whole_extent slot) (whole_extent (get_or slots k slot)) side xs ys same))
 
     each_at : (k : ℕ) (d : SlotState) → k < length slots → (k ≡ h) ⊎ (k ≡ h → ⊥)
         → get_or (slice_set (map (state_of ys) slots) h (state_of ys new)) k d
@@ -123,7 +150,7 @@ states_set slots h slot new xs ys apart here same = map-set (state_of ys) slots 
 
 -- a sector of a slot's extent is in one of the extents
 in_some : (slots : List BoardSlot) (h : ℕ) (slot : BoardSlot) → slice_get slots h ≡ Some slot → (sector : ℕ)
-    → has_sector slot.extent sector ≡ true → list_any (λ e. has_sector e sector) (extents_of slots) ≡ true
+    → has_sector (whole_extent slot) sector ≡ true → list_any (λ e. has_sector e sector) (extents_of slots) ≡ true
 in_some [] h slot here sector is = absurd (cc)
 in_some (s ∷ slots) zero slot here sector is = let same : s ≡ slot = cc in rw (same, is) refl
 in_some (s ∷ slots) (suc h) slot here sector is = let rest = in_some slots h slot here sector is in
@@ -180,15 +207,15 @@ pub stays_in_extents : {I : Type 0} (disk : I → Disk) (slots : List BoardSlot)
     → StaysInExtents disk (record { slots = slots; image = old })
     (record { slots = slice_set slots h after; image = new })
 stays_in_extents disk slots old new h slot after here stays =
-    let extents = extents_of-set slots h slot after here stays.extent in
+    let extents = extents_of-set slots h slot after here stays.place in
     record {
-      tells = λ tells. (outside_kept slot.extent (disk old).contents (disk new).contents tells
+      tells = λ tells. (outside_kept (whole_extent slot) (disk old).contents (disk new).contents tells
           stays.image.outside.contents).tells;
       outside = λ tells.
           ap (λ es. outside_of es (bytes_of (disk new))) extents
-          ∙ sym (outside_more (extents_of slots) slot.extent (λ sector. in_some slots h slot here sector) 0
+          ∙ sym (outside_more (extents_of slots) (whole_extent slot) (λ sector. in_some slots h slot here sector) 0
           (bytes_of (disk old)) (bytes_of (disk new))
-          (outside_kept slot.extent (disk old).contents (disk new).contents tells
+          (outside_kept (whole_extent slot) (disk old).contents (disk new).contents tells
           stays.image.outside.contents).outside);
       extents = extents;
       sectors = stays.image.outside.sectors;
@@ -229,9 +256,9 @@ stays_same disk board = record {
 pub takes : {A : Type 0} (Comes : SlotState → Health → Health → SlotState → List ℕ → Turn A → Type 0)
     (slots : List BoardSlot) (old new : Disk) (h : ℕ) (slot after : BoardSlot) (turn : Turn A)
     (block console : ℕ) (out_before out_after : List ℕ) →
-    AllPairs IsApart (extents_of slots) → slice_get slots h ≡ Some slot → after.extent ≡ slot.extent →
+    AllPairs IsApart (extents_of slots) → slice_get slots h ≡ Some slot → KeepsPlace slot after →
     after.disturbed ≡ (slot.disturbed || met_in turn old.failures new.failures) →
-    outside_of (slot.extent ∷ []) (bytes_of old) ≡ outside_of (slot.extent ∷ []) (bytes_of new) →
+    outside_of (whole_extent slot ∷ []) (bytes_of old) ≡ outside_of (whole_extent slot ∷ []) (bytes_of new) →
     ServesTurn Comes (state_of (bytes_of old) slot) (health_of old) (health_of new)
     (state_of (bytes_of new) after) turn out_before out_after →
     (block, console) ≡ interrupt_words after →
@@ -252,7 +279,7 @@ takes Comes slots old new h slot after turn block console out_before out_after a
         disturbed = noted_set slots h slot after (met_in turn old.failures new.failures) here notes;
         outside =
             ap (λ es. outside_of es (bytes_of new)) (extents_of-set slots h slot after here extent)
-            ∙ sym (outside_more (extents_of slots) slot.extent (λ sector. in_some slots h slot here sector) 0
+            ∙ sym (outside_more (extents_of slots) (whole_extent slot) (λ sector. in_some slots h slot here sector) 0
             (bytes_of old) (bytes_of new) stays);
       };
       appended = serves.appended;
@@ -263,9 +290,9 @@ takes Comes slots old new h slot after turn block console out_before out_after a
 pub handles : {A : Type 0} (slots : List BoardSlot) (old new : Disk) (event : Event A)
     (slot after : BoardSlot) (reply : Reply A) (block console : ℕ) (out_before out_after : List ℕ) →
     AllPairs IsApart (extents_of slots) → slice_get slots event.slot ≡ Some slot
-    → after.extent ≡ slot.extent →
+    → KeepsPlace slot after →
     after.disturbed ≡ (slot.disturbed || met_refusal reply old.failures new.failures) →
-    outside_of (slot.extent ∷ []) (bytes_of old) ≡ outside_of (slot.extent ∷ []) (bytes_of new) →
+    outside_of (whole_extent slot ∷ []) (bytes_of old) ≡ outside_of (whole_extent slot ∷ []) (bytes_of new) →
     Serves (state_of (bytes_of old) slot) event.what (health_of old) (health_of new)
     (state_of (bytes_of new) after) reply out_before out_after →
     block ≡ block_irq (state_of (bytes_of new) after)
@@ -290,7 +317,7 @@ handles slots old new event slot after reply block console out_before out_after 
             outside =
                 ap (λ es. outside_of es (bytes_of new))
                 (extents_of-set slots event.slot slot after here extent)
-                ∙ sym (outside_more (extents_of slots) slot.extent
+                ∙ sym (outside_more (extents_of slots) (whole_extent slot)
                 (λ sector. in_some slots event.slot slot here sector) 0 (bytes_of old) (bytes_of new) stays);
           });
       appended = serves.appended;

@@ -14,19 +14,23 @@ use Rattle.board.specs.Extent.{IsApart, AreSound}
 use Rattle.board.specs.Fault.{IsGoodSlot, GoodBelow, AreGood, HasDepthBy, HasRoom, HasRoomBy, most_sectors, place_by, room_by, share}
 use Rattle.board.specs.declared.spec.Backing.{Backing}
 use Rattle.board.specs.declared.spec.Backing.TheVariants.{Image, Host}
-use Rattle.board.specs.Slot.{extent_by, opened}
+use Rattle.board.specs.Slot.{extent_by, opened, spare_by}
 use Rattle.board.specs.World.{extents_of}
 
 -- what a good slot has of the image lies in it
-share_within : (sectors : ℕ) (backing : Backing) (extent : Extent)
-    → IsWithin (room_by backing sectors) (place_by backing extent) → IsWithin sectors (extent_by backing extent)
-share_within sectors Image extent within = within
-share_within sectors (Host depth) extent within = omega arith
+share_within : (sectors : ℕ) (backing : Backing) (extent : Extent) (spare : ℕ)
+    → IsWithin (room_by backing sectors) (place_by backing extent spare)
+    → IsWithin sectors (record {
+      start = (extent_by backing extent).start;
+      count = (extent_by backing extent).count + spare_by backing spare;
+    })
+share_within sectors Image extent spare within = within
+share_within sectors (Host depth) extent spare within = omega arith
 
-room_of : (sectors : ℕ) (backing : Backing) (extent : Extent) → HasDepthBy backing
-    → IsWithin (room_by backing sectors) (place_by backing extent) → HasRoomBy backing extent
-room_of sectors Image extent depth within = tt
-room_of sectors (Host depth) extent has within =
+room_of : (sectors : ℕ) (backing : Backing) (extent : Extent) (spare : ℕ) → HasDepthBy backing
+    → IsWithin (room_by backing sectors) (place_by backing extent spare) → HasRoomBy backing extent
+room_of sectors Image extent spare depth within = tt
+room_of sectors (Host depth) extent spare has within =
     let few : extent.count ≤ most_sectors = omega (arith, within) in
     (omega (arith, few), has.1)
 
@@ -38,7 +42,7 @@ within_below sectors slots n most good k d below =
     let near : k < n = omega arith in
     let one = get_or slots k d in
     subst (λ (spec : SlotSpec). IsWithin sectors (share spec)) (sym (get_or-take n slots k d near))
-    (share_within sectors one.backing one.extent
+    (share_within sectors one.backing one.extent one.spare
     (good k one near (slice_get-get_or slots k d (omega arith))).within)
 
 more_at : (sectors : ℕ) (slots : List SlotSpec) (n : ℕ) (last : SlotSpec) → GoodBelow sectors slots n
@@ -75,7 +79,7 @@ pub rooms : (sectors : ℕ) (slots : List SlotSpec) → AreGood sectors slots �
 rooms sectors slots good k d below =
     let one = get_or slots k d in
     let is = good.each k one below (slice_get-get_or slots k d below) in
-    room_of sectors one.backing one.extent is.depth is.within
+    room_of sectors one.backing one.extent one.spare is.depth is.within
 
 pub extents_of-opened : (slots : List SlotSpec)
     → extents_of (map opened slots) ≡ map share slots
@@ -97,6 +101,7 @@ apart_all sectors slots good i j d before below =
     let some : SlotSpec = record {
       regions = [];
       extent = d;
+      spare = 0;
       backing = Image;
       read_only = false;
       cols = 0;
@@ -115,7 +120,7 @@ sound sectors slots good =
     subst (AreSound sectors) (sym (extents_of-opened slots)) (record {
       within = All-map (IsWithin sectors) share slots
           (λ k d below. let one = get_or slots k d in
-          share_within sectors one.backing one.extent
+          share_within sectors one.backing one.extent one.spare
           (good.each k one below (slice_get-get_or slots k d below)).within);
       apart = apart_all sectors slots good;
     })

@@ -12,8 +12,9 @@ use Rattle.block_device.specs.declared.extent.Extent.{Extent}
 use Rattle.block_device.specs.Extent.{TouchesExtent}
 use Rattle.board.specs.Durable.{TouchesSlot}
 use Rattle.board.specs.Extent.{IsApart}
-use Rattle.board.specs.Slot.{BoardSlot}
+use Rattle.board.specs.Slot.{BoardSlot, state_of, whole_extent}
 use Rattle.board.specs.World.{BoardState}
+use Rattle.board.proofs.Seats.{state_same}
 
 -- two extents that are apart stand one behind the other, where each has a sector
 in_order : (one other : Extent) → IsApart one other → 0 < one.count → 0 < other.count
@@ -77,25 +78,25 @@ module _ {I : Type 0} (moment : I → ℕ) (may_leave : I → List ℕ → Type 
 
   -- an event of a slot
   pub touches_slot : (slots slots' : List BoardSlot) (g : ℕ) (slot : BoardSlot) (old new : I)
-      → slice_get slots g ≡ Some slot → TouchesExtent moment may_leave left_since slot.extent old new
+      → slice_get slots g ≡ Some slot → TouchesExtent moment may_leave left_since (whole_extent slot) old new
       → TouchesSlot moment may_leave left_since g (record { slots = slots; image = old })
       (record { slots = slots'; image = new })
   touches_slot slots slots' g slot old new here touches = rw here touches
 
   touched_extent : (old new : BoardState I) (g : ℕ) (slot : BoardSlot) → slice_get old.slots g ≡ Some slot
       → TouchesSlot moment may_leave left_since g old new
-      → TouchesExtent moment may_leave left_since slot.extent old.image new.image
+      → TouchesExtent moment may_leave left_since (whole_extent slot) old.image new.image
   touched_extent old new g slot here touches = rw here at touches
 
   -- an extent that is apart from the slot's is left as before
   pub apart_left : (old new : BoardState I) (g since : ℕ) (own other : BoardSlot) (bytes left : List ℕ)
       → TouchesSlot moment may_leave left_since g old new → slice_get old.slots g ≡ Some own
-      → IsApart own.extent other.extent
+      → IsApart (whole_extent own) (whole_extent other)
       → Only bytes (may_leave old.image) → BeginsAt (may_leave old.image) (left_since old.image) since
       → left_since new.image since left
-      → extent_of left other.extent.start other.extent.count
-      ≡ extent_of bytes other.extent.start other.extent.count
+      → state_of left other ≡ state_of bytes other
   apart_left old new g since own other bytes left touches here apart only begins past =
-      apart_same own.extent other.extent bytes left apart
-      (stops.known_beside (512 * own.extent.start) (512 * (own.extent.start + own.extent.count)) since bytes
-      left (touched_extent old new g own here touches) begins only past)
+      let mine = whole_extent own in
+      state_same other left bytes (apart_same mine (whole_extent other) bytes left apart
+      (stops.known_beside (512 * mine.start) (512 * (mine.start + mine.count)) since bytes
+      left (touched_extent old new g own here touches) begins only past))

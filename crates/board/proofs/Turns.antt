@@ -68,7 +68,7 @@ finishing_not_refused device budget (Some queue) Refused m m' w w' s t h is =
 finishing_not_refused device budget (Some queue) Ending.Spent m m' w w' s t h is = cc
 finishing_not_refused device budget (Some queue) (Ending.Faulted fault) m m' w w' s t h is = cc
 
-exact_piece : (device : BlockDevice) (stage : Stage) (budget : Budget) (queue : Option Queue)
+pub exact_piece : (device : BlockDevice) (stage : Stage) (budget : Budget) (queue : Option Queue)
     (progress : Progress) (m m' : Memory) (w w' : WindowState) (s t : Disk) → t.failures ≡ s.failures
     → ServesTo stage (block_device device) budget 0 queue progress m m' w w' s t
     → ServesTo stage (exact_device device) budget 0 queue progress m m' w w' s t
@@ -99,7 +99,7 @@ exact_piece device Next budget (Some queue) progress.More m m' w w' s t stood h 
     budget 0 queue m m' w w' s t stood h
 
 -- where the extent lies is never seen
-piece_anywhere : (Way : Request → List ℕ → Disk → Outcome → Type 0) (device : BlockDevice) (stage : Stage)
+pub piece_anywhere : (Way : Request → List ℕ → Disk → Outcome → Type 0) (device : BlockDevice) (stage : Stage)
     (budget : Budget) (queue : Option Queue) (progress : Progress) (m m' : Memory)
     (w w' : WindowState) (s t : Disk)
     → ServesTo stage (device_by Way device) budget 0 queue progress m m' w w' s t
@@ -116,13 +116,13 @@ piece_anywhere Way device stage budget queue progress m m' w w' s t h =
 seen_piece : (Way : Request → List ℕ → Disk → Outcome → Type 0) (slot : BoardSlot) (stage : Stage)
     (budget : Budget) (progress : Progress) (memory : Memory) (block : WindowState) (old new : Disk)
     → Tells old → Tells new → IsWhole old → IsWhole new → IsWithin old.sector_count slot.extent
-    → IsWithin new.sector_count slot.extent
+    → IsWithin new.sector_count slot.extent → (state_of (bytes_of new) slot).spare_bytes ≡ (state_of (bytes_of old) slot).spare_bytes
     → ServesTo stage (device_by Way (image_device slot)) budget 0 (queue_at 0 slot.block) progress slot.memory
     memory slot.block block (extent_disk slot.extent old) (extent_disk slot.extent new)
     → IsBlockPiece (device_by Way (device_of (state_of (bytes_of old) slot))) stage budget progress
     (state_of (bytes_of old) slot) (health_of old) (health_of new)
     (state_of (bytes_of new) (block_served slot memory block)) []
-seen_piece Way slot stage budget progress memory block old new tells tells' whole whole' lies lies' h =
+seen_piece Way slot stage budget progress memory block old new tells tells' whole whole' lies lies' spare h =
     let start = state_of (bytes_of old) slot in
     let count : slot.extent.count ≡ sectors_of start.extent =
     sym (count_of slot.extent old tells whole lies) in
@@ -141,7 +141,7 @@ seen_piece Way slot stage budget progress memory block old new tells tells' whol
           (queue_at 0 slot.block) progress slot.memory memory slot.block block
           (extent_disk slot.extent old) d)
           (seen_disk slot.extent new tells' whole' lies') own);
-      is = refl;
+      is = rw spare refl;
       size = count_of slot.extent new tells' whole' lies' ∙ count;
       silent = refl;
     }
@@ -151,12 +151,13 @@ pub block_piece : (slot : BoardSlot) (stage : Stage) (budget : Budget) (progress
     (block : WindowState) (old new : Disk)
     → Tells old → Tells new → IsWhole old → IsWhole new → IsWithin old.sector_count slot.extent
     → IsWithin new.sector_count slot.extent → old.failures ≤ new.failures
+    → (state_of (bytes_of new) slot).spare_bytes ≡ (state_of (bytes_of old) slot).spare_bytes
     → ServesTo stage (block_device (image_device slot)) budget 0 (queue_at 0 slot.block) progress slot.memory
     memory slot.block block (extent_disk slot.extent old) (extent_disk slot.extent new)
     → IsPiece Block stage budget progress (state_of (bytes_of old) slot) (health_of old) (health_of new)
     (state_of (bytes_of new) (block_served slot memory block)) []
 block_piece slot stage budget progress memory block old new tells tells' whole whole' lies lies' rises
-    served = either (cases_eq new.failures old.failures)
+    spare served = either (cases_eq new.failures old.failures)
   where
     either : (new.failures ≡ old.failures) ⊎ (new.failures ≢ old.failures)
         → IsPiece Block stage budget progress (state_of (bytes_of old) slot) (health_of old) (health_of new)
@@ -164,14 +165,14 @@ block_piece slot stage budget progress memory block old new tells tells' whole w
     either (inl stood) = inl (record {
       piece =
           seen_piece (Completes slot.identity) slot stage budget progress memory block old new tells tells'
-          whole whole' lies lies'
+          whole whole' lies lies' spare
           (exact_piece (image_device slot) stage budget (queue_at 0 slot.block) progress slot.memory memory
           slot.block block (extent_disk slot.extent old) (extent_disk slot.extent new) stood served);
       failures = stood;
     })
     either (inr rose) = inr (record {
       piece = seen_piece (Ends slot.identity) slot stage budget progress memory block old new tells tells'
-          whole whole' lies lies' served;
+          whole whole' lies lies' spare served;
       failures = grind (arith, nat_tests, rises, rose);
     })
 

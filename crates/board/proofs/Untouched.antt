@@ -12,7 +12,7 @@ use Rattle.board.specs.declared.event.EventKind.TheVariants.{Read, Write, MemRea
 use Rattle.block_device.specs.declared.operation.HostEvent.{HostEvent}
 use Rattle.block_device.specs.declared.operation.HostEvent.TheVariants.{Complete, Drop, Hold, Release}
 use Rattle.block_device.specs.declared.operation.Verdict.{Verdict}
-use Rattle.block_device.specs.Flights.{is_any}
+use Rattle.block_device.specs.Tags.{is_any}
 use Rattle.board.specs.declared.reply.Reply.{Reply}
 use Rattle.board.specs.declared.reply.Reply.TheVariants.{Value, NoMemory, Idle}
 use Rattle.board.specs.declared.saved.RestoreFault.{RestoreFault}
@@ -89,6 +89,7 @@ module _ (old : SlotState) (m : Memory) (same : SameRange old.memory m) where
           };
         };
         extent = h.extent;
+        spare = h.spare;
       }
 
   has_block : (saved : SavedSlot) → IsSome (block_restored old.memory saved.block)

@@ -4,7 +4,8 @@ use Rattle.std.specs.Prelude.{◌||◌}
 use Rattle.std.specs.Option.{option_and_then}
 use Rattle.block_device.specs.declared.device.BlockDevice.{BlockDevice}
 use Rattle.block_device.specs.declared.operation.HostEvent.{HostEvent}
-use Rattle.block_device.specs.Flights.{HostedQueue, InFlight, is_any}
+use Rattle.block_device.specs.Flights.{HostedQueue, InFlight}
+use Rattle.block_device.specs.Tags.{is_any}
 use Rattle.hosted_disk.specs.Told.{QueueTold}
 use Rattle.board.specs.declared.event.EventKind.{EventKind}
 use Rattle.board.specs.declared.event.EventKind.TheVariants.{Restore, Device}

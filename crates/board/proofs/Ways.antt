@@ -2,7 +2,8 @@
 use Rattle.std.proofs.Common.{◌≡◌, Bool, true, false, ℕ, Option, Some, None, get_or, refl}
 use Rattle.std.specs.Prelude.{◌&&◌}
 use Rattle.block_device.specs.declared.operation.Verdict.{Verdict}
-use Rattle.block_device.specs.Flights.{InFlight, is_any}
+use Rattle.block_device.specs.Flights.{InFlight}
+use Rattle.block_device.specs.Tags.{is_any}
 use Rattle.board.specs.declared.event.EventKind.{EventKind}
 use Rattle.block_device.specs.declared.operation.HostEvent.{HostEvent}
 use Rattle.block_device.specs.declared.operation.HostEvent.TheVariants.{Complete, Drop, Hold, Release}

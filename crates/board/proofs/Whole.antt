@@ -1,4 +1,7 @@
 -- A service in one piece is what an event comes to.
+use Rattle.block_device.specs.declared.device.BlockDevice.{BlockDevice}
+use Rattle.board.specs.ImageDisks.{image_served}
+use Rattle.board.proofs.AtDevice.{served_hosted}
 use Rattle.std.proofs.Common.{◌≡◌, ◌≢◌, ◌⊎◌, inl, inr, ℕ, zero, suc, ◌%◌, ◌^◌, Bool, true, false, Option, Some, None, List, [], refl, ap, subst}
 use Rattle.std.specs.Prelude.{◌==◌, if◌then◌else◌}
 use Rattle.chain.specs.declared.budget.Budget.{Budget}
@@ -27,13 +30,13 @@ use Rattle.board.specs.declared.pause.Turn.TheVariants.{Answered}
 use Rattle.board.specs.declared.reply.Reply.{Reply}
 use Rattle.board.specs.declared.reply.Reply.TheVariants.{Done, Took, NoMemory}
 use Rattle.board.specs.Image.{Health, disk_with}
-use Rattle.board.specs.Machine.{readied, task_at, with_input, with_write}
+use Rattle.board.specs.Machine.{action_at, readied, task_at, with_input, with_write}
 use Rattle.board.specs.Outcome.{Outcome}
 use Rattle.board.specs.Backing.{HostDisk}
 use Rattle.board.specs.Hosting.{has_part, is_block_task, notifies_block}
 use Rattle.board.specs.declared.pause.Pause.{Pause}
 use Rattle.board.specs.declared.pause.Service.{Service}
-use Rattle.board.specs.Pausing.{Begins, BeginsOverImage, EndsBy, IsBlockPiece, IsFurtherPiece, IsReceivePiece, IsTransmitPiece, TurnsTo, asked_by, asked_over_image}
+use Rattle.board.specs.Pausing.{Begins, BeginsOverImage, EndsBy, IsBlockPiece, IsFurtherPiece, IsPieceAtDevice, IsReceivePiece, IsTransmitPiece, TurnsTo, asked_by, asked_over_image}
 use Rattle.board.specs.Slot.{SlotState}
 use Rattle.board.specs.Task.{Task, Nothing, Serve, PutOut, task_of, Finishes, IsBlockService, IsReceiveService, device_of}
 use Rattle.board.specs.World.{IsCutShort, MayGive, MayGiveBy, MayGiveOverImage}
@@ -208,19 +211,21 @@ whole_over_image _ budget state before after new output reply h = h
 -- the image has no part in a service of the console
 console_image : {A : Type 0} (pause : Pause) (stage : Stage) (budget : Budget) (old : SlotState)
     (before after : Health) (new : SlotState) (output : List ℕ) (reply : Reply A) (which : Service)
-    → pause.service ≡ which → which ≢ Block
+    → pause.service ≡ which → which ≢ Block → image_served which old ≡ None
     → EndsBy pause stage budget old before after new output reply → after ≡ before
-console_image pause stage budget old before after new output reply Block is other h = absurd (other refl)
-console_image pause stage budget old before after new output reply Receive is other (inl (done, h)) =
+console_image pause stage budget old before after new output reply Block is other none h = absurd (other refl)
+console_image pause stage budget old before after new output reply Receive is other none (inl (done, h)) =
     let piece : IsReceivePiece stage budget progress.Done old before after new output = rw is at h in
     piece.image
-console_image pause stage budget old before after new output reply Transmit is other (inl (done, h)) =
+console_image pause stage budget old before after new output reply Transmit is other none (inl (done, h)) =
     let piece : IsTransmitPiece stage budget progress.Done old before after new output = rw is at h in
     piece.image
-console_image pause stage budget old before after new output reply (Further n q) is other (inl (done, h)) =
-    let piece : IsFurtherPiece n q stage budget progress.Done old before after new output = rw is at h in
+console_image pause stage budget old before after new output reply (Further n q) is other none (inl (done, h)) =
+    let piece : IsFurtherPiece n q stage budget progress.Done old before after new output =
+    subst (λ (f : Option BlockDevice). IsPieceAtDevice f n q stage budget progress.Done old before after new output) none
+    (rw is at h) in
     piece.image
-console_image pause stage budget old before after new output reply which is other (inr (lacks, (puts, h))) =
+console_image pause stage budget old before after new output reply which is other none (inr (lacks, (puts, h))) =
     h.image
 
 -- what the disk has no part in comes to what it does over an image
@@ -232,6 +237,14 @@ by_passing {A} disk state what before after outcome free image h = record {
       (subst (λ (x : Health). MayGiveOverImage state what before x outcome) image h);
   image = image;
 }
+
+-- nor one of a disk over the image
+pub no_image : (window : SlotWindow) (action : Action) (service : Service) (state : SlotState)
+    → task_of window action ≡ Serve service → image_served service state ≡ None
+no_image window action Block state is = refl
+no_image window action Receive state is = refl
+no_image window action Transmit state is = refl
+no_image window action (Further n q) state is = absurd (none_further window action n q is)
 
 hosted_write : {A : Type 0} (disk : HostDisk) (state : SlotState) (window : SlotWindow)
     (offset width value : ℕ) (budget : Budget) (before after : Health) (new : SlotState) (output : List ℕ)
@@ -250,60 +263,62 @@ hosted_write disk state window offset width value budget before after new output
     free h =
     by_passing disk state (Write window offset width value) before after (came new reply output) free
     (console_image (record { service = service; taken = None }) First budget
-    (with_write window offset width value state) before after new output reply service refl (λ e. cc) h)
+    (with_write window offset width value state) before after new output reply service refl (λ e. cc)
+    (no_image window (action_at window offset width value state) service (with_write window offset width value state) is) h)
     (write_whole state window offset width value budget before after new output reply (Serve service) is h)
 hosted_write disk state window offset width value budget before after new output reply (PutOut byte) is free
     h = h
 
 hosted_device : {A : Type 0} (disk : HostDisk) (n : ℕ) (what : FurtherEvent A) (state : SlotState) (budget : Budget)
     (before after : Health) (new : SlotState) (output : List ℕ) (reply : Reply A)
-    → has_part (Some disk) (DeviceEvent n what) state ≡ false → (asks : Option Pause)
+    → state.host ≡ Some disk → has_part (Some disk) (DeviceEvent n what) state ≡ false → (asks : Option Pause)
     → device_asks n what state ≡ asks
     → TurnsTo (λ c. MayGiveBy (Some disk) state (DeviceEvent n what) before after c) asks (DeviceEvent n what) budget
     state before after new output (Answered reply)
     → MayGiveBy (Some disk) state (DeviceEvent n what) before after (came new reply output)
-hosted_device disk n what state budget before after new output reply free None asks h = h
-hosted_device disk n what state budget before after new output reply free (Some pause) asks h =
+hosted_device disk n what state budget before after new output reply hosted free None asks h = h
+hosted_device disk n what state budget before after new output reply hosted free (Some pause) asks h =
     let a = asking n what state pause asks in
     by_passing disk state (DeviceEvent n what) before after (came new reply output) free
     (console_image pause First budget (readied (DeviceEvent n what) state) before after new output reply
-    (Further n a.queue) (ap (λ (p : Pause). p.service) a.is) (λ e. cc) h)
+    (Further n a.queue) (ap (λ (p : Pause). p.service) a.is) (λ e. cc)
+    (served_hosted n a.queue (readied (DeviceEvent n what) state) disk hosted) h)
     (further_whole n what state pause budget before after new output reply asks h)
 
 hosted_whole : {A : Type 0} (disk : HostDisk) (what : EventKind A) (budget : Budget) (state : SlotState)
     (before after : Health) (new : SlotState) (output : List ℕ) (reply : Reply A)
-    → has_part (Some disk) what state ≡ false
+    → state.host ≡ Some disk → has_part (Some disk) what state ≡ false
     → TurnsTo (λ c. MayGiveBy (Some disk) state what before after c) (asked_over_image what state) what budget
     state before after new output (Answered reply)
     → MayGiveBy (Some disk) state what before after (came new reply output)
-hosted_whole disk (Write window offset width value) budget state before after new output reply free h =
+hosted_whole disk (Write window offset width value) budget state before after new output reply hosted free h =
     hosted_write disk state window offset width value budget before after new output reply
     (task_at window offset width value state) refl free h
-hosted_whole disk (Input bytes) budget state before after new output reply free h =
+hosted_whole disk (Input bytes) budget state before after new output reply hosted free h =
     by_passing disk state (Input bytes) before after (came new reply output) free
     (console_image (record { service = Receive; taken = Some (fitting state.pending bytes) }) First budget
-    (with_input bytes state) before after new output reply Receive refl (λ e. cc) h)
+    (with_input bytes state) before after new output reply Receive refl (λ e. cc) refl h)
     (input_whole state bytes budget before after new output reply h)
-hosted_whole disk (DeviceEvent n what) budget state before after new output reply free h =
-    hosted_device disk n what state budget before after new output reply free (device_asks n what state) refl h
-hosted_whole disk _ budget state before after new output reply free h = h
+hosted_whole disk (DeviceEvent n what) budget state before after new output reply hosted free h =
+    hosted_device disk n what state budget before after new output reply hosted free (device_asks n what state) refl h
+hosted_whole disk _ budget state before after new output reply hosted free h = h
 
 whole_by : {A : Type 0} (host : Option HostDisk) (part : Bool) (what : EventKind A) (budget : Budget)
     (state : SlotState) (before after : Health) (new : SlotState) (output : List ℕ) (reply : Reply A)
-    → has_part host what state ≡ part
+    → state.host ≡ host → has_part host what state ≡ part
     → TurnsTo (λ c. MayGiveBy host state what before after c)
     (if part then None else asked_over_image what state) what budget state before after new output
     (Answered reply)
     → MayGiveBy host state what before after (came new reply output)
-whole_by host true what budget state before after new output reply is h = h
-whole_by None false what budget state before after new output reply is h =
+whole_by host true what budget state before after new output reply same is h = h
+whole_by None false what budget state before after new output reply same is h =
     whole_over_image what budget state before after new output reply h
-whole_by (Some disk) false what budget state before after new output reply is h =
-    hosted_whole disk what budget state before after new output reply is h
+whole_by (Some disk) false what budget state before after new output reply same is h =
+    hosted_whole disk what budget state before after new output reply same is h
 
 pub whole : {A : Type 0} (what : EventKind A) (budget : Budget) (state : SlotState) (before after : Health)
     (new : SlotState) (output : List ℕ) (reply : Reply A)
     → Begins what budget state before after new output (Answered reply)
     → MayGive state what before after (came new reply output)
 whole what budget state before after new output reply h =
-    whole_by state.host (has_part state.host what state) what budget state before after new output reply refl h
+    whole_by state.host (has_part state.host what state) what budget state before after new output reply refl refl h

@@ -1,4 +1,6 @@
 -- What writes leave of a slot's memory, a service leaves too, and so does each event.
+use Rattle.board.proofs.AtDevice.{by_image, refused_by_image}
+use Rattle.board.specs.ImageDisks.{image_asked}
 use Rattle.std.proofs.Common.{◌≡◌, inl, inr, ℕ, zero, suc, Bool, true, false, Option, Some, None, List, [], ◌∷◌, refl, sym, ◌∙◌, ap, subst}
 use Rattle.std.specs.Prelude.{if◌then◌else◌, is_none, is_some, not, unwrap_or}
 use Rattle.byteorder.specs.Endian.{little_bytes}
@@ -27,7 +29,7 @@ use Rattle.block_device.specs.declared.operation.HostEvent.TheVariants as host
 use Rattle.hosted_disk.specs.Disk.{queue_of}
 use Rattle.hosted_disk.specs.Told.{QueueTold}
 use Rattle.block_device.specs.declared.device.BlockDevice.{BlockDevice}
-use Rattle.device_list.specs.Model.{ModelState, Entropy, Network, Block as BlockModel, Console as ConsoleModel}
+use Rattle.device_list.specs.Model.{ModelState, Entropy, Network, Block as BlockModel, Console as ConsoleModel, Image as ImageModel}
 use Rattle.device_list.specs.Device as device
 use Rattle.device_list.specs.Device.{DeviceState, Receives, TakesSent, Told}
 use Rattle.device_list.specs.Card.{receive_refusal, with_frame}
@@ -244,6 +246,7 @@ module _ (K : Memory → Memory → Type 0) (left : IsLeftByWrites K) where
       unless_left MemoryLeft memory_left disk.on_hold disk.device (queue_of m v disk) (queue_of n w h.after)
       h.serves.looks
   serves_left (BlockModel disk) (suc q) m n v w model' h = same_left m n h.serves.memory
+  serves_left (ImageModel disk) q m n v w model' h = same_left m n h.memory
   serves_left (ConsoleModel terminal) zero m n v w model' h =
       notified_left _ 0 (queue_at 0 v) h.serves.notified.ending m n v w _ _ h.serves.notified.notified
   serves_left (ConsoleModel terminal) (suc zero) m n v w model' h =
@@ -333,9 +336,13 @@ module _ (K : Memory → Memory → Type 0) (left : IsLeftByWrites K) where
       state.console outcome.state.console _ _ h.notified.notified
   gives_left state (Restore bytes) before after outcome own h = restoring_left state bytes outcome (are_at_work state.devices) h.alike
   gives_left {A} state (kind.Device n what) before after outcome own h =
-      of_device n what state (λ (o : Outcome A). K state.memory o.state.memory) before after outcome h
+      by_image n what state before after outcome (image_asked n what state)
+      (λ none given. of_device n what state (λ (o : Outcome A). K state.memory o.state.memory) before after outcome given
       (left.none state.memory) (λ reply found step. at_left what n state.memory outcome.state.memory state.devices
-      outcome.state.devices step.at)
+      outcome.state.devices step.at))
+      (λ disk asked served. let s = served.serves in
+      notified_left _ 0 (queue_at 0 s.device.window) s.serves.ending state.memory outcome.state.memory
+      s.device.window s.window _ _ s.serves.notified) h
   gives_left state _ before after outcome own h = state_left state outcome _ h.alike refl
 
   cut_left : {A : Type 0} (task : Task) (state : SlotState) (before after : Health) (outcome : Outcome A)
@@ -358,7 +365,12 @@ module _ (K : Memory → Memory → Type 0) (left : IsLeftByWrites K) where
       (cut_left (task_at window offset width value state) (with_write window offset width value state)
       before after outcome h)
   refused_left state (MemRead addr len) before after outcome h = state_left state outcome _ h.unchanged refl
-  refused_left state (kind.Device n what) before after outcome h = state_left state outcome _ h.unchanged refl
+  refused_left state (kind.Device n what) before after outcome h =
+      refused_by_image n what state before after outcome (image_asked n what state)
+      (λ none unmet. state_left state outcome _ unmet.unchanged refl)
+      (λ disk asked failed. let s = failed.service.serves in
+      notified_left _ 0 (queue_at 0 s.device.window) s.serves.ending state.memory outcome.state.memory
+      s.device.window s.window _ _ s.serves.notified) h
   refused_left state _ before after outcome h = absurd h
 
   over_image_left : {A : Type 0} (state : SlotState) (what : EventKind A) (before after : Health)

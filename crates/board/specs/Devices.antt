@@ -61,7 +61,7 @@ waits_there n offset devices = option_map_or (waits_at offset) (slice_get device
 
 -- whether the slot takes this device as the one of this number, which is the next
 abbrev pub can_plug : ℕ → DeviceSpec → SlotState → Bool
-can_plug n spec state = n == length state.devices && is_none (refusal_of state.devices spec)
+can_plug n spec state = n == length state.devices && is_none (refusal_of state.devices state.spare spec)
 
 -- whether what is done to device n waits for what is in flight
 abbrev pub waits_for_disk : {A : Type 0} → DeviceEvent A → ℕ → List DeviceState → Bool
@@ -220,11 +220,11 @@ pub record IsPlugged (slot : ℕ) (spec : DeviceSpec) (number : ℕ) (old new : 
   pub before : BoardSlot
   pub there : slice_get old slot ≡ Some before
   pub next : number ≡ length before.devices
-  pub taken : refusal_of before.devices spec ≡ None
+  pub taken : refusal_of before.devices before.spare spec ≡ None
   pub is : new ≡ slice_set old slot (record before { devices = before.devices ++ fresh_device spec ∷ [] })
 
 -- Why it isn't plugged in: there is no such slot, or the slot doesn't take it.
 abbrev pub IsPlugRefusal : DeviceSpec → Option BoardSlot → PlugRefusal → Type 0
 IsPlugRefusal spec None why = why ≡ refusal.BadSlot
-IsPlugRefusal spec (Some found) (refusal.Device why) = IsRefusedFor found.devices spec why
+IsPlugRefusal spec (Some found) (refusal.Device why) = IsRefusedFor found.devices found.spare spec why
 IsPlugRefusal spec (Some found) refusal.BadSlot = ⊥

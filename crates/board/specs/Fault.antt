@@ -17,7 +17,7 @@ use Rattle.board.specs.declared.spec.SlotSpec.{SlotSpec}
 use Rattle.block_device.specs.declared.extent.Extent.{Extent}
 use Rattle.block_device.specs.Extent.{IsWithin, sector_len}
 use Rattle.board.specs.Extent.{IsApart, Overlaps}
-use Rattle.board.specs.Slot.{extent_by}
+use Rattle.board.specs.Slot.{extent_by, spare_by}
 
 -- the most sectors that a disk may have whose bytes are counted in 64 bits
 abbrev pub most_sectors : ℕ
@@ -29,12 +29,16 @@ abbrev pub room_by : Backing → ℕ → ℕ
 room_by Image sectors = sectors
 room_by (Host depth) sectors = most_sectors
 
-abbrev pub place_by : Backing → Extent → Extent
-place_by Image extent = extent
-place_by (Host depth) extent = record { start = 0; count = extent.count }
+abbrev pub place_by : Backing → Extent → ℕ → Extent
+place_by Image extent spare = record { start = extent.start; count = extent.count + spare }
+place_by (Host depth) extent spare = record { start = 0; count = extent.count }
+
+-- where a slot's sectors must lie: its disk's, and the spare ones behind them
+abbrev pub place_of : SlotSpec → Extent
+place_of spec = place_by spec.backing spec.extent spec.spare
 
 abbrev pub Fits : ℕ → SlotSpec → Type 0
-Fits sectors spec = IsWithin (room_by spec.backing sectors) (place_by spec.backing spec.extent)
+Fits sectors spec = IsWithin (room_by spec.backing sectors) (place_of spec)
 
 -- how many operations may be in flight of a disk that the host serves
 abbrev pub HasDepthBy : Backing → Type 0
@@ -53,9 +57,12 @@ HasRoomBy (Host depth) extent = (sector_len * extent.count < 2 ^ 64) × (depth �
 abbrev pub HasRoom : SlotSpec → Type 0
 HasRoom spec = HasRoomBy spec.backing spec.extent
 
--- what a slot has of the image
+-- what a slot has of the image, its spare sectors too
 abbrev pub share : SlotSpec → Extent
-share spec = extent_by spec.backing spec.extent
+share spec = record {
+  start = (extent_by spec.backing spec.extent).start;
+  count = (extent_by spec.backing spec.extent).count + spare_by spec.backing spec.spare;
+}
 
 -- a slot may be had on an image of that many sectors, beside the slots before it
 pub record IsGoodSlot (sectors : ℕ) (earlier : List SlotSpec) (spec : SlotSpec) : Type 0 where
@@ -86,9 +93,7 @@ pub record HasBadDepth (spec : SlotSpec) : Type 0 where
 pub record HasExtentOutside (sectors : ℕ) (spec : SlotSpec) : Type 0 where
   pub memory : AreGoodRegions spec.regions
   pub depth : HasDepth spec
-  pub outside :
-      room_by spec.backing sectors
-      < (place_by spec.backing spec.extent).start + (place_by spec.backing spec.extent).count
+  pub outside : room_by spec.backing sectors < (place_of spec).start + (place_of spec).count
 
 -- an extent inside the image that has a sector of an earlier slot's, of a slot whose memory and depth are good
 pub record HasSharedSector (sectors : ℕ) (earlier : List SlotSpec) (spec : SlotSpec) : Type 0 where

@@ -16,6 +16,7 @@ pub mod Replies
 pub mod Saved
 pub mod Restoring
 pub mod Devices
+pub mod ImageDisks
 pub mod Task
 pub mod OverImage
 pub mod Machine

@@ -17,6 +17,8 @@ use Rattle.board.specs.World.{World, Step}
 pub record HasBytesOf (saved : BoardSlot) (bytes : List ℕ) (state : SlotState) : Type 0 where
   pub memory : state.memory ≡ saved.memory
   pub extent : state.extent ≡ (state_of bytes saved).extent
+  pub spare : state.spare ≡ saved.spare
+  pub spare_bytes : state.spare_bytes ≡ (state_of bytes saved).spare_bytes
   pub host : state.host ≡ saved.host
   pub devices : AreOfModels saved.devices state.devices
 

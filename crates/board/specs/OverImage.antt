@@ -13,8 +13,8 @@ use Rattle.console_device.specs.Input.{fitting}
 use Rattle.board.specs.declared.event.EventKind.{EventKind}
 use Rattle.board.specs.declared.event.EventKind.TheVariants.{Read, Write, MemRead, MemWrite, Input, Resize, Restore, Host, Device}
 use Rattle.board.specs.declared.reply.Reply.TheVariants.{Value, Bytes, BadRange, Took, Idle}
-use Rattle.board.specs.Devices.{GivesDevice, devices_readied}
 use Rattle.board.specs.Image.{Health}
+use Rattle.board.specs.ImageDisks.{GivesAtDevice, device_readied, image_asked}
 use Rattle.board.specs.Outcome.{Outcome, replies, does, IsDetermined}
 use Rattle.board.specs.Restoring.{Restores}
 use Rattle.board.specs.Slot.{SlotState, disk_sectors}
@@ -82,7 +82,7 @@ resized cols rows state =
 abbrev pub readied : {A : Type 0} → EventKind A → SlotState → SlotState
 readied (Write window offset width value) state = with_write window offset width value state
 readied (Input bytes) state = with_input bytes state
-readied (Device n what) state = record state { devices = devices_readied n what state.memory state.devices }
+readied (Device n what) state = device_readied n what state
 readied what state = state
 
 -- What comes of an event of a guest whose disk is of the image, where memory is found for it and no call of the
@@ -105,4 +105,5 @@ GivesOverImage state (Resize cols rows) before after outcome =
     IsDetermined outcome (does (resized cols rows state)) before after
 GivesOverImage state (Restore bytes) before after outcome = Restores state bytes before after outcome
 GivesOverImage state (Host said) before after outcome = IsDetermined outcome (replies state Idle) before after
-GivesOverImage state (Device n what) before after outcome = GivesDevice n what state before after outcome
+GivesOverImage state (Device n what) before after outcome =
+    GivesAtDevice (image_asked n what state) n what state before after outcome

@@ -10,6 +10,7 @@ use Rattle.mmio_window.specs.declared.stage.Stage.TheVariants.{First, Next}
 use Rattle.mmio_window.specs.Pieces.{IsRefusedAt, ServesTo}
 use Rattle.mmio_window.specs.Window.{queue_at}
 use Rattle.sector_cache.specs.Disk.{Disk}
+use Rattle.block_device.specs.declared.device.BlockDevice.{BlockDevice}
 use Rattle.block_device.specs.Device.{block_device, exact_device}
 use Rattle.console_device.specs.Device.{receive, transmit, exact_transmit}
 use Rattle.console_device.specs.Input.{fitting}
@@ -29,6 +30,7 @@ use Rattle.board.specs.Image.{Health, Tells, bytes_of, health_of, sectors_of, di
 use Rattle.board.specs.Backing.{HostDisk}
 use Rattle.board.specs.Devices.{device_asks}
 use Rattle.board.specs.Hosting.{has_part}
+use Rattle.board.specs.ImageDisks.{ServesImageDisk, image_device, image_served}
 use Rattle.board.specs.Machine.{block_irq, console_irq, task_at}
 pub use Rattle.board.specs.Machine.{readied}
 use Rattle.board.specs.Slot.{BoardSlot, SlotState, state_of}
@@ -90,13 +92,37 @@ pub record IsRefusedPiece (stage : Stage) (budget : Budget) (old : SlotState) (b
   pub is : new ≡ record old { memory = new.memory; console = new.console }
   pub image : after ≡ before
 
--- A piece of a further device's service of a queue: the memory and the devices may change.
+-- A piece of the service of a further disk over the image.
+pub record IsImageDiskPiece (device : Device Disk) (n : ℕ) (disk : BlockDevice) (stage : Stage) (budget : Budget)
+    (progress : Progress) (old : SlotState) (before after : Health) (new : SlotState) (output : List ℕ) : Type 0 where
+  pub serves : ServesImageDisk (λ queue m m' w w' s t. ServesTo stage device budget 0 queue progress m m' w w' s t)
+      n disk old new before after
+  pub silent : output ≡ []
+
+-- one in which no call of the image failed, or some did
+abbrev pub IsAnyImageDiskPiece : ℕ → BlockDevice → Stage → Budget → Progress → SlotState → Health → Health
+    → SlotState → List ℕ → Type 0
+IsAnyImageDiskPiece n disk stage budget progress old before after new output =
+    (IsImageDiskPiece (exact_device (image_device disk)) n disk stage budget progress old before after new output
+    × (after.failures ≡ before.failures))
+    ⊎ (IsImageDiskPiece (block_device (image_device disk)) n disk stage budget progress old before after new output
+    × (before.failures < after.failures))
+
+-- A piece of another further device's service of a queue: the memory and the devices may change.
 pub record IsFurtherPiece (n q : ℕ) (stage : Stage) (budget : Budget) (progress : Progress) (old : SlotState)
     (before after : Health) (new : SlotState) (output : List ℕ) : Type 0 where
   pub served : DevicesServeTo stage budget progress n q old.memory new.memory old.devices new.devices
   pub is : new ≡ record old { memory = new.memory; devices = new.devices }
   pub image : after ≡ before
   pub silent : output ≡ []
+
+-- a piece of a further device's service, by the disk over the image that it is, if it is one
+abbrev pub IsPieceAtDevice : Option BlockDevice → ℕ → ℕ → Stage → Budget → Progress → SlotState → Health → Health
+    → SlotState → List ℕ → Type 0
+IsPieceAtDevice None n q stage budget progress old before after new output =
+    IsFurtherPiece n q stage budget progress old before after new output
+IsPieceAtDevice (Some disk) n q stage budget progress old before after new output =
+    IsAnyImageDiskPiece n disk stage budget progress old before after new output
 
 abbrev pub IsPiece : Service → Stage → Budget → Progress → SlotState → Health → Health
     → SlotState → List ℕ → Type 0
@@ -108,7 +134,7 @@ IsPiece Receive stage budget progress old before after new output =
 IsPiece Transmit stage budget progress old before after new output =
     IsTransmitPiece stage budget progress old before after new output
 IsPiece (Further n q) stage budget progress old before after new output =
-    IsFurtherPiece n q stage budget progress old before after new output
+    IsPieceAtDevice (image_served (Further n q) old) n q stage budget progress old before after new output
 
 -- whether a budget has a limit: without one no service pauses
 abbrev pub HasLimit : Budget → Type 0

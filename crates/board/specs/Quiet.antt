@@ -1,5 +1,5 @@
 -- An event that leaves the image alone and puts nothing out.
-use Rattle.std.specs.Prelude.{◌≡◌, ◌≢◌, ℕ, List, []}
+use Rattle.std.specs.Prelude.{◌≡◌, ◌≢◌, ℕ, IsSome, Some, List, []}
 use Rattle.guest_memory.specs.Memory.{SameRange}
 use Rattle.chain.specs.declared.budget.Budget.{Budget}
 use Rattle.mmio_window.specs.declared.stage.Stage.{Stage}
@@ -13,9 +13,10 @@ use Rattle.board.specs.declared.reply.Reply.{Reply}
 use Rattle.board.specs.declared.reply.Reply.TheVariants.{BadRange, BadSlot, NoMemory}
 use Rattle.board.specs.Devices.{TakesMemoryFor}
 use Rattle.board.specs.Image.{Health, sectors_of}
+use Rattle.board.specs.ImageDisks.{image_served_in}
 use Rattle.board.specs.Outcome.{replies}
-use Rattle.board.specs.Pausing.{Begins, BeginsOverImage, ComesTo, PausesByLimit}
-use Rattle.board.specs.Slot.{BoardSlot, state_of}
+use Rattle.board.specs.Pausing.{Begins, BeginsOverImage, ComesTo, PausesByLimit, asked_over_image, readied}
+use Rattle.board.specs.Slot.{BoardSlot, KeepsPlace, state_of}
 use Rattle.board.specs.World.{MayGive, MayGiveOverImage}
 
 -- What a slot gives for it may be given over an image, whatever that has.
@@ -30,7 +31,7 @@ pub record AnswersQuietly {A : Type 0} (old : BoardSlot) (what : EventKind A) (n
     : Type 0 where
   pub given : (image : List ℕ) (health : Health) → sectors_of (state_of image old).extent ≡ old.extent.count →
       MayGive (state_of image old) what health health (replies (state_of image new) reply)
-  pub extent : new.extent ≡ old.extent
+  pub place : KeepsPlace old new
   pub disturbed : new.disturbed ≡ old.disturbed
   pub answered : reply ≢ NoMemory
 
@@ -57,6 +58,14 @@ pub record ServesFurther {A : Type 0} (pause : Pause) (stage : Stage) (budget : 
   pub in_range : turn ≢ Answered BadRange
   pub answered : turn ≢ Answered NoMemory
 
+-- An event asks for this service of a further disk over the image, and the slot is as that finds it. Of the slot only its
+-- devices changed.
+pub record AsksImageDisk {A : Type 0} (what : EventKind A) (old new : BoardSlot) (pause : Pause) : Type 0 where
+  pub asks : (image : List ℕ) → asked_over_image what (state_of image old) ≡ Some pause
+  pub image : IsSome (image_served_in pause.service new)
+  pub readied : (image : List ℕ) → state_of image new ≡ readied what (state_of image old)
+  pub rest : new ≡ record old { devices = new.devices }
+
 -- What a turn comes to in which this begins that is done to further device n of a slot, as over an image. Of the slot only
 -- its devices change, and bytes of its memory. Only what takes memory finds none.
 pub record BeginsAtDevice {A : Type 0} (n : ℕ) (what : DeviceEvent A) (budget : Budget) (old new : BoardSlot)
@@ -76,7 +85,7 @@ pub record BeginsQuietly {A : Type 0} (old : BoardSlot) (what : EventKind A) (bu
     (turn : Turn A) : Type 0 where
   pub begins : (image : List ℕ) (health : Health) →
       Begins what budget (state_of image old) health health (state_of image new) [] turn
-  pub extent : new.extent ≡ old.extent
+  pub place : KeepsPlace old new
   pub disturbed : new.disturbed ≡ old.disturbed
   pub limited : PausesByLimit budget turn
   pub there : turn ≢ Answered BadSlot

@@ -16,6 +16,7 @@ abbrev pub slot_in : SlotState → BoardSlot
 slot_in state = record {
   memory = state.memory;
   extent = record { start = 0; count = sectors_of state.extent };
+  spare = state.spare;
   host = state.host;
   on_hold = state.on_hold;
   read_only = state.read_only;
@@ -29,10 +30,11 @@ slot_in state = record {
   disturbed = false;
 }
 
--- The slot takes up the snapshot that these bytes are; the bytes of its disk stay.
+-- The slot takes up the snapshot that these bytes are; the bytes of its disks stay.
 pub record IsTakenUp (state : SlotState) (bytes : List ℕ) (new : SlotState) : Type 0 where
   pub restored : IsRestored (slot_in state) bytes (slot_in new)
   pub extent : new.extent ≡ state.extent
+  pub spare : new.spare_bytes ≡ state.spare_bytes
 
 -- The bytes are no snapshot that the slot takes up.
 pub record IsNotTakenUp (state : SlotState) (bytes : List ℕ) : Type 0 where

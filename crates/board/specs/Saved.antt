@@ -191,6 +191,7 @@ IsAs slot old new =
     ≡ record slot {
       memory = old.memory;
       extent = old.extent;
+      spare = old.spare;
       host = old.host;
       devices = with_windows_of slot.devices old.devices;
       disturbed = old.disturbed;

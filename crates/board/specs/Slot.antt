@@ -1,5 +1,6 @@
 -- A slot: what its guest can see, and what the board keeps of it.
-use Rattle.std.specs.Prelude.{◌≡◌, ℕ, ◌||◌, Bool, false, nat_lt, List, [], length, ◌≤◌, Option, Some, None, replicate}
+use Rattle.std.specs.Prelude.{◌≡◌, ℕ, ◌+◌, ◌||◌, Bool, false, nat_lt, List, [], length, ◌≤◌, Option, Some, None, replicate, slice_set}
+use Rattle.std.specs.List.{slice_get}
 use Rattle.guest_memory.specs.Faults.{zeroed_regions}
 use Rattle.guest_memory.specs.Memory.{Memory, SameRange}
 use Rattle.mmio_window.specs.declared.device_kind.DeviceKind.TheVariants.{Block, Console}
@@ -8,12 +9,14 @@ use Rattle.mmio_window.specs.Soundness.{IsSound}
 use Rattle.mmio_window.specs.Window.{WindowState, fresh_window}
 use Rattle.device_list.specs.Device.{DeviceState}
 use Rattle.device_list.specs.List.{AreSoundDevices, are_at_work}
+use Rattle.device_list.specs.Model.{image_of}
 use Rattle.sector_cache.specs.Disk.{Disk}
 use Rattle.sector_cache.specs.Sector.{extent_of}
+use Rattle.block_device.specs.declared.device.BlockDevice.{BlockDevice}
 use Rattle.block_device.specs.declared.extent.Extent.{Extent}
 use Rattle.block_device.specs.Config.{block_features}
-use Rattle.block_device.specs.Extent.{StaysInExtent}
-use Rattle.block_device.specs.Flights.{is_any}
+use Rattle.block_device.specs.Extent.{SameOutside, StaysInExtent}
+use Rattle.block_device.specs.Tags.{is_any}
 use Rattle.console_device.specs.Config.{console_features}
 use Rattle.board.specs.declared.spec.Backing.{Backing}
 use Rattle.board.specs.declared.spec.Backing.TheVariants.{Image, Host}
@@ -21,7 +24,8 @@ use Rattle.board.specs.declared.spec.SlotSpec.{SlotSpec}
 use Rattle.board.specs.Backing.{HostDisk, sectors_by, tags_in}
 use Rattle.board.specs.Image.{sectors_of}
 
--- All that one guest can see: its memory, the bytes of its extent of the image, the disk that the host
+-- All that one guest can see: its memory, the bytes of its extent of the image, the spare sectors behind that, which its
+-- further disks over the image have, how many there are and their bytes, the disk that the host
 -- serves it in place of one of the image, whether that disk is on hold, so that no further chain of its queue is
 -- taken, whether its block device refuses writes and what its identity is,
 -- the windows of its two devices, and of its console what was typed and is still pending, and the size, and its
@@ -29,6 +33,8 @@ use Rattle.board.specs.Image.{sectors_of}
 pub record SlotState : Type 0 where
   pub memory : Memory
   pub extent : List ℕ
+  pub spare : ℕ
+  pub spare_bytes : List ℕ
   pub host : Option HostDisk
   pub on_hold : Bool
   pub read_only : Bool
@@ -45,6 +51,7 @@ pub record SlotState : Type 0 where
 pub record BoardSlot : Type 0 where
   pub memory : Memory
   pub extent : Extent
+  pub spare : ℕ
   pub host : Option HostDisk
   pub on_hold : Bool
   pub read_only : Bool
@@ -57,11 +64,20 @@ pub record BoardSlot : Type 0 where
   pub devices : List DeviceState
   pub disturbed : Bool
 
+-- where a slot's spare sectors begin, and all that it has of the image
+abbrev pub spare_start : BoardSlot → ℕ
+spare_start slot = slot.extent.start + slot.extent.count
+
+abbrev pub whole_extent : BoardSlot → Extent
+whole_extent slot = record { start = slot.extent.start; count = slot.extent.count + slot.spare }
+
 -- what the slot's guest can see where the image has these bytes
 abbrev pub state_of : List ℕ → BoardSlot → SlotState
 state_of bytes slot = record {
   memory = slot.memory;
   extent = extent_of bytes slot.extent.start slot.extent.count;
+  spare = slot.spare;
+  spare_bytes = extent_of bytes (spare_start slot) slot.spare;
   host = slot.host;
   on_hold = slot.on_hold;
   read_only = slot.read_only;
@@ -85,10 +101,14 @@ sectors_in slot = sectors_by slot.host slot.extent.count
 abbrev pub is_at_work : BoardSlot → Bool
 is_at_work slot = is_any (tags_in slot.host) || are_at_work slot.devices
 
--- An event of a slot stays in it: of the image it reaches the slot's extent, which lies where it did.
+-- what the slot has of the image lies where it did
+abbrev pub KeepsPlace : BoardSlot → BoardSlot → Type 0
+KeepsPlace old new = (new.extent ≡ old.extent) × (new.spare ≡ old.spare)
+
+-- An event of a slot stays in it: of the image it reaches what the slot has of it, which lies where it did.
 pub record StaysInSlot (old new : BoardSlot) (before after : Disk) : Type 0 where
-  pub extent : new.extent ≡ old.extent
-  pub image : StaysInExtent old.extent before after
+  pub place : KeepsPlace old new
+  pub image : StaysInExtent (whole_extent old) before after
 
 -- the same of one whose refusal is to be noted: this is whether a call of the image failed
 pub record IsUnnoted (old new : BoardSlot) (before after : Disk) (failed : Bool) : Type 0 where
@@ -102,6 +122,26 @@ pub record KeepsBesideDisk (old new : SlotState) : Type 0 where
   pub rest : new ≡ record old { memory = new.memory; extent = new.extent; block = new.block }
   pub memory : SameRange old.memory new.memory
   pub extent : length new.extent ≡ length old.extent
+
+-- All that a request of a further disk over the image doesn't reach stays: what is beside the memory, the disk's sectors and
+-- its window, and where the memory lies and how large it is.
+pub record KeepsBesideFurtherDisk (old new : SlotState) : Type 0 where
+  pub number : ℕ
+  pub before : DeviceState
+  pub after : DeviceState
+  pub disk : BlockDevice
+  pub there : slice_get old.devices number ≡ Some before
+  pub is_disk : image_of before.model ≡ Some disk
+  pub model : after.model ≡ before.model
+  pub rest :
+      new
+      ≡ record old {
+        memory = new.memory;
+        spare_bytes = new.spare_bytes;
+        devices = slice_set old.devices number after;
+      }
+  pub outside : SameOutside disk.extent old.spare_bytes new.spare_bytes
+  pub memory : SameRange old.memory new.memory
 
 -- All that a transmit doesn't reach stays: what is beside the memory and the console's window, and where the
 -- memory lies and how large it is.
@@ -129,6 +169,11 @@ abbrev pub extent_by : Backing → Extent → Extent
 extent_by Image extent = extent
 extent_by (Host depth) extent = record { start = 0; count = 0 }
 
+-- and how many spare sectors behind it
+abbrev pub spare_by : Backing → ℕ → ℕ
+spare_by Image spare = spare
+spare_by (Host depth) spare = 0
+
 -- the disk that the host serves it, which has as many sectors as the extent counts, with every tag free
 abbrev pub host_by : Backing → Extent → Option HostDisk
 host_by Image extent = None
@@ -140,6 +185,7 @@ abbrev pub opened : SlotSpec → BoardSlot
 opened spec = record {
   memory = zeroed_regions spec.regions;
   extent = extent_by spec.backing spec.extent;
+  spare = spare_by spec.backing spec.spare;
   host = host_by spec.backing spec.extent;
   on_hold = false;
   read_only = spec.read_only;

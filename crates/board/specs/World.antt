@@ -19,13 +19,14 @@ use Rattle.board.specs.declared.reply.Reply.TheVariants.{BadSlot, NoMemory}
 use Rattle.board.specs.declared.reply.Record.{Record}
 use Rattle.board.specs.declared.pause.Service.TheVariants.{Block, Receive, Transmit, Further}
 use Rattle.board.specs.Backing.{HostDisk}
-use Rattle.board.specs.Devices.{IsUnmet, TakesMemoryFor}
+use Rattle.board.specs.Devices.{TakesMemoryFor}
 use Rattle.board.specs.Extent.{outside_of}
 use Rattle.board.specs.Hosting.{GivesOnHost}
 use Rattle.board.specs.Image.{Health, Tells, bytes_of, health_of}
+use Rattle.board.specs.ImageDisks.{IsRefusedAtDevice, image_asked}
 use Rattle.board.specs.Machine.{task_at, with_write, GivesOverImage, record_of}
 use Rattle.board.specs.Outcome.{Outcome, replies, IsDetermined}
-use Rattle.board.specs.Slot.{SlotState, BoardSlot, state_of}
+use Rattle.board.specs.Slot.{SlotState, BoardSlot, state_of, whole_extent}
 use Rattle.board.specs.Task.{Task, Nothing, Serve, PutOut, device_of, transmits, IsBlockService, IsConsoleService}
 
 -- A board: its slots, and the image that they share.
@@ -41,9 +42,9 @@ pub record World : Type 0 where
   pub outside : List ℕ
   pub health : Health
 
--- where the slots' extents lie in the image
+-- where in the image each slot has its sectors
 abbrev pub extents_of : List BoardSlot → List Extent
-extents_of slots = map (λ slot. slot.extent) slots
+extents_of slots = map whole_extent slots
 
 -- for each slot whether an event of it has met a refusal
 abbrev pub disturbed_of : List BoardSlot → List Bool
@@ -131,7 +132,7 @@ IsRefused state (Input bytes) old new outcome = ⊥
 IsRefused state (Resize cols rows) old new outcome = ⊥
 IsRefused state (Restore bytes) old new outcome = ⊥
 IsRefused state (Host said) old new outcome = ⊥
-IsRefused state (Device n what) old new outcome = IsUnmet n what state old new outcome
+IsRefused state (Device n what) old new outcome = IsRefusedAtDevice (image_asked n what state) n what state old new outcome
 
 -- what may come of an event of a slot whose disk is of the image, which fared so before and after it
 abbrev pub MayGiveOverImage : {A : Type 0} → SlotState → EventKind A → Health → Health → Outcome A → Type 0

@@ -5,6 +5,7 @@ ghost use Rattle.std.specs.Bool.{OnTrue, OnFalse};
 ghost use Rattle.block_device.specs.Extent.{IsWithin};
 ghost use Rattle.board.specs.Extent.{IsApart, Overlaps};
 ghost use Rattle.board.specs.Fault.{Fits, HasDepth, IsGoodSlot, AreGood, IsFaultOf, Refuses, share};
+ghost use Rattle.board.specs.Slot.{extent_by, spare_by};
 
 use crate::fault::{BoardFault, SlotFault};
 use crate::spec::{Backing, SlotSpec};
@@ -71,20 +72,35 @@ fn has_depth(spec: &SlotSpec) -> bool
     }
 }
 
-// Whether a slot's disk lies where it must: its extent in an image of that many sectors, or its bytes in 64 bits.
+// Whether a slot's sectors lie where they must: those of the image in one of that many sectors, or a disk's bytes in 64 bits.
 fn fits(spec: &SlotSpec, sectors: u64) -> bool
     ensures value { IsTrue result ↔ Fits sectors spec.now }
     ensures share { OnTrue result (IsWithin sectors (share spec.now)) }
 {
     match spec.backing {
-        Backing::Image => is_within(spec.extent, sectors),
+        Backing::Image => {
+            is_within(spec.extent, sectors)
+                && spec.spare <= sectors - spec.extent.start - spec.extent.count
+        }
         Backing::Host { depth: _ } => spec.extent.count <= MOST_SECTORS,
     }
 }
 
-/// What a slot has of the image.
-pub(crate) fn share(spec: &SlotSpec) -> Extent
+// What a slot has of the image, its spare sectors too.
+fn share(spec: &SlotSpec) -> Extent
+    requires { (share spec.now).count < 2 ^ 64 }
     ensures { result ≡ share spec.now }
+{
+    let Extent { start, count } = own_extent(spec);
+    Extent {
+        start,
+        count: count + spare(spec),
+    }
+}
+
+/// The sectors of the image that a slot's own disk has.
+pub(crate) fn own_extent(spec: &SlotSpec) -> Extent
+    ensures { result ≡ extent_by spec.now.backing spec.now.extent }
 {
     match spec.backing {
         Backing::Image => spec.extent,
@@ -92,8 +108,18 @@ pub(crate) fn share(spec: &SlotSpec) -> Extent
     }
 }
 
-// Whether an extent lies in an image of that many sectors.
-fn is_within(extent: Extent, sectors: u64) -> bool
+/// How many sectors it has behind them, for its further disks.
+pub(crate) fn spare(spec: &SlotSpec) -> u64
+    ensures { result ≡ spare_by spec.now.backing spec.now.spare }
+{
+    match spec.backing {
+        Backing::Image => spec.spare,
+        Backing::Host { depth: _ } => 0,
+    }
+}
+
+/// Whether an extent lies in an image of that many sectors.
+pub(crate) fn is_within(extent: Extent, sectors: u64) -> bool
     ensures { IsTrue result ↔ IsWithin sectors extent }
 {
     extent.start <= sectors && extent.count <= sectors - extent.start

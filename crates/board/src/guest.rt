@@ -8,7 +8,7 @@ ghost use Rattle.std.specs.Prelude.{◌≡◌, ◌≢◌, ◌||◌, ℕ, if◌th
 ghost use Rattle.std.specs.Bool.{OnTrue, OnFalse};
 ghost use Rattle.guest_memory.specs.Faults.{AreGood as AreGoodRegions};
 ghost use Rattle.block_device.specs.Extent.{IsWithin, TouchesExtent};
-ghost use Rattle.block_device.specs.Flights.{is_any};
+ghost use Rattle.block_device.specs.Tags.{is_any};
 ghost use Rattle.board.specs.declared.pause.Turn.{Turn};
 ghost use Rattle.board.specs.declared.reply.Reply.{Reply};
 ghost use Rattle.board.specs.Backing.{tags_in};
@@ -18,7 +18,7 @@ ghost use Rattle.board.specs.Image.{Health, sectors_of};
 ghost use Rattle.board.specs.Lent.{opened_over};
 ghost use Rattle.board.specs.Outcome.{replies};
 ghost use Rattle.board.specs.Pausing.{Begins, Does, GoesOn, MayLackMemoryIn, PausesByLimit, ServesOver, ServesTurn, met_in};
-ghost use Rattle.board.specs.Slot.{IsUnnoted, StaysInSlot, is_at_work, opened, state_of};
+ghost use Rattle.board.specs.Slot.{IsUnnoted, KeepsPlace, StaysInSlot, is_at_work, opened, state_of, whole_extent};
 ghost use Rattle.board.specs.Within.{BeginsWithin, DecidesOver, DoesWithin, GoesOnWithin};
 ghost use Rattle.board.specs.World.{MayLackMemory};
 
@@ -91,7 +91,7 @@ impl<A: Allocator + Copy> Guest<A> {
         cache: &mut SectorCache<I, A>,
         out: &mut O,
     ) -> Turn<A>
-        requires lies { IsWithin (I.disk cache.old).sector_count self.old.extent }
+        requires lies { IsWithin (I.disk cache.old).sector_count (whole_extent self.old) }
         ensures serves { ServesOver (Does work.entry budget) self.old self.new (I.disk cache.old) (I.disk cache.new)
             result (O.bytes out.old) (O.bytes out.new) }
         ensures within { DecidesOver (λ limit. DoesWithin limit work.entry budget) (O.limit out.old) self.old self.new
@@ -100,7 +100,7 @@ impl<A: Allocator + Copy> Guest<A> {
         ensures noted { self.new.disturbed ≡ (self.old.disturbed ||
             met_in result (I.disk cache.old).failures (I.disk cache.new).failures) }
         ensures stays { StaysInSlot self.old self.new (I.disk cache.old) (I.disk cache.new) }
-        ensures touches { TouchesExtent I.moment I.may_leave I.left_since self.old.extent cache.old cache.new }
+        ensures touches { TouchesExtent I.moment I.may_leave I.left_since (whole_extent self.old) cache.old cache.new }
 
         // a slot that is there is never said to be missing, and what is refused changes nothing
         ensures limited { PausesByLimit budget result }
@@ -132,7 +132,7 @@ impl<A: Allocator + Copy> Guest<A> {
         cache: &mut SectorCache<I, A>,
         out: &mut O,
     ) -> Answer<A>
-        requires lies { IsWithin (I.disk cache.old).sector_count self.old.extent }
+        requires lies { IsWithin (I.disk cache.old).sector_count (whole_extent self.old) }
         ensures serves { ServesOver (Begins what.now budget) self.old self.new (I.disk cache.old) (I.disk cache.new)
             result.turn (O.bytes out.old) (O.bytes out.new) }
         ensures within { DecidesOver (λ limit. BeginsWithin limit what.now budget) (O.limit out.old) self.old self.new
@@ -140,7 +140,7 @@ impl<A: Allocator + Copy> Guest<A> {
         ensures limited { PausesByLimit budget result.turn }
         ensures limit { O.limit out.new ≡ O.limit out.old }
         ensures unnoted { IsUnnoted self.old self.new (I.disk cache.old) (I.disk cache.new) result.failed }
-        ensures touches { TouchesExtent I.moment I.may_leave I.left_since self.old.extent cache.old cache.new }
+        ensures touches { TouchesExtent I.moment I.may_leave I.left_since (whole_extent self.old) cache.old cache.new }
         ensures there { result.turn ≢ Turn.Answered Reply.BadSlot }
         ensures bad_range { result.turn ≡ Turn.Answered Reply.BadRange →
             (self.new ≡ self.old) × (cache.new ≡ cache.old) }
@@ -176,7 +176,7 @@ impl<A: Allocator + Copy> Guest<A> {
             (O.bytes out.old) (O.bytes out.new) result }
         ensures limited { PausesByLimit budget result }
         ensures limit { O.limit out.new ≡ O.limit out.old }
-        ensures extent { self.new.extent ≡ self.old.extent }
+        ensures place { KeepsPlace self.old self.new }
         ensures disturbed { self.new.disturbed ≡ self.old.disturbed }
         ensures there { result ≢ Turn.Answered Reply.BadSlot }
         ensures bad_range { result ≡ Turn.Answered Reply.BadRange → self.new ≡ self.old }
@@ -189,9 +189,9 @@ impl<A: Allocator + Copy> Guest<A> {
         if self.holds_up(what) {
             return Turn::Answered(Reply::Busy);
         }
-        match self.slot.answer_beside_disk(alloc, what, budget, out) {
-            Some(turn) => turn,
-            None => {
+        match self.slot.answer_beside_image(alloc, what, budget, out) {
+            Ok(turn) => turn,
+            Err(_) => {
                 self.slot.look();
                 Turn::Answered(Reply::Done)
             }
@@ -207,14 +207,14 @@ impl<A: Allocator + Copy> Guest<A> {
         cache: &mut SectorCache<I, A>,
         out: &mut O,
     ) -> Answer<A>
-        requires lies { IsWithin (I.disk cache.old).sector_count self.old.extent }
+        requires lies { IsWithin (I.disk cache.old).sector_count (whole_extent self.old) }
         ensures serves { ServesOver (GoesOn pause budget) self.old self.new (I.disk cache.old)
             (I.disk cache.new) result.turn (O.bytes out.old) (O.bytes out.new) }
         ensures within { DecidesOver (λ limit. GoesOnWithin limit pause budget) (O.limit out.old) self.old self.new
             (I.disk cache.old) (I.disk cache.new) (O.bytes out.old) (O.bytes out.new) result.turn }
         ensures limit { O.limit out.new ≡ O.limit out.old }
         ensures unnoted { IsUnnoted self.old self.new (I.disk cache.old) (I.disk cache.new) result.failed }
-        ensures touches { TouchesExtent I.moment I.may_leave I.left_since self.old.extent cache.old cache.new }
+        ensures touches { TouchesExtent I.moment I.may_leave I.left_since (whole_extent self.old) cache.old cache.new }
         ensures limited { PausesByLimit budget result.turn }
         ensures there { result.turn ≢ Turn.Answered Reply.BadSlot }
         ensures in_range { result.turn ≢ Turn.Answered Reply.BadRange }
@@ -242,7 +242,7 @@ impl<A: Allocator + Copy> Guest<A> {
             (O.bytes out.old) (O.bytes out.new) result }
         ensures limited { PausesByLimit budget result }
         ensures limit { O.limit out.new ≡ O.limit out.old }
-        ensures extent { self.new.extent ≡ self.old.extent }
+        ensures place { KeepsPlace self.old self.new }
         ensures disturbed { self.new.disturbed ≡ self.old.disturbed }
         ensures there { result ≢ Turn.Answered Reply.BadSlot }
         ensures in_range { result ≢ Turn.Answered Reply.BadRange }
@@ -250,7 +250,8 @@ impl<A: Allocator + Copy> Guest<A> {
         match pause.service {
             Service::Block => Turn::Answered(pause.reply()),
             Service::Receive | Service::Transmit | Service::Further { .. } => {
-                self.slot.serve_beside_disk(pause, Stage::Next, budget, out)
+                self.slot
+                    .serve_beside_image(pause, Stage::Next, budget, out)
             }
         }
     }
@@ -261,7 +262,7 @@ impl<A: Allocator> Guest<A> {
     fn told(&mut self, told: HostEvent) -> Reply<A>
         ensures gives { IsSome self.old.host → (image : List ℕ) →
             HostGives {A = A} told (state_of image self.old) (replies (state_of image self.new) result) }
-        ensures extent { self.new.extent ≡ self.old.extent }
+        ensures place { KeepsPlace self.old self.new }
         ensures disturbed { self.new.disturbed ≡ self.old.disturbed }
         ensures there { result ≢ Reply.BadSlot }
         ensures in_range { result ≢ Reply.BadRange }
@@ -282,7 +283,7 @@ impl<A: Allocator> Guest<A> {
             CompletesTag tag verdict (state_of image self.old) (state_of image self.new)) }
         ensures idle { OnFalse result (get_or (tags_in self.old.host) tag None ≡ None) }
         ensures kept { OnFalse result (self.new ≡ self.old) }
-        ensures extent { self.new.extent ≡ self.old.extent }
+        ensures place { KeepsPlace self.old self.new }
         ensures disturbed { self.new.disturbed ≡ self.old.disturbed }
     {
         let done = self.slot.land(tag, verdict);
@@ -297,7 +298,7 @@ impl<A: Allocator> Guest<A> {
         ensures gives { IsSome self.old.host → (image : List ℕ) →
             state_of image self.new ≡ if result then dropped (state_of image self.old) else state_of image self.old }
         ensures value { result ≡ is_any (tags_in self.old.host) }
-        ensures extent { self.new.extent ≡ self.old.extent }
+        ensures place { KeepsPlace self.old self.new }
         ensures disturbed { self.new.disturbed ≡ self.old.disturbed }
     {
         let busy = self.is_busy();
@@ -325,7 +326,7 @@ impl<A: Allocator> Guest<A> {
             LooksAtQueue (released (state_of image self.old)) (state_of image self.new)) }
         ensures value { result ≡ self.old.on_hold }
         ensures kept { OnFalse result (self.new ≡ self.old) }
-        ensures extent { self.new.extent ≡ self.old.extent }
+        ensures place { KeepsPlace self.old self.new }
         ensures disturbed { self.new.disturbed ≡ self.old.disturbed }
     {
         let on_hold = self.slot.is_on_hold();

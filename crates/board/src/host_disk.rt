@@ -5,7 +5,8 @@ ghost use Rattle.std.specs.Bool.{OnTrue, OnFalse};
 ghost use Rattle.guest_memory.specs.Memory.{Memory, SameRange};
 ghost use Rattle.mmio_window.specs.Soundness.{IsSound};
 ghost use Rattle.block_device.specs.Extent.{sector_len};
-ghost use Rattle.block_device.specs.Flights.{AreHeld, HostedQueue, IsLanding, IsLook, given_up, is_any, operation_in, runs_in, taken_bits};
+ghost use Rattle.block_device.specs.Flights.{AreHeld, HostedQueue, IsLanding, IsLook, given_up};
+ghost use Rattle.block_device.specs.Tags.{is_any, operation_in, runs_in, taken_bits};
 ghost use Rattle.board.specs.Backing.{HostDisk};
 
 use block_device::{BlockDevice, Flights, Operation, Verdict};

@@ -1,6 +1,6 @@
 //! What holds of every line of events, by itself: no board is made or run here.
 
-ghost use Rattle.std.specs.Prelude.{◌≡◌, ◌≢◌, ◌↔◌, ℕ, ◌+◌, ◌<◌, ◌≤◌, List, [], ◌∷◌, ◌++◌, None, Some, true, false, get_or, length, IfSome, IsSome};
+ghost use Rattle.std.specs.Prelude.{◌⊎◌, ◌≡◌, ◌≢◌, ◌↔◌, ℕ, ◌+◌, ◌<◌, ◌≤◌, List, [], ◌∷◌, ◌++◌, None, Some, true, false, get_or, length, IfSome, IsSome};
 ghost use Rattle.std.specs.List.{slice_get};
 ghost use Rattle.guest_memory.specs.Memory.{Inside, Memory, SameRange};
 ghost use Rattle.chain.specs.Service.{Served, ServesAll, ServesChain, Site};
@@ -21,7 +21,8 @@ ghost use Rattle.block_device.specs.declared.request.RequestStatus.{RequestStatu
 ghost use Rattle.block_device.specs.Asking.{status_by, unasked_device};
 ghost use Rattle.block_device.specs.Device.{block_device};
 ghost use Rattle.block_device.specs.Durable.{IsCommitted, IsUnwritten, KeepsWordIn, Medium};
-ghost use Rattle.block_device.specs.Flights.{HostedQueue, InFlight, is_any};
+ghost use Rattle.block_device.specs.Flights.{HostedQueue, InFlight};
+ghost use Rattle.block_device.specs.Tags.{is_any};
 ghost use Rattle.block_device.specs.Request.{code_of};
 ghost use Rattle.board.specs.declared.event.Event.{Event};
 ghost use Rattle.board.specs.declared.event.DeviceEvent.{DeviceEvent};
@@ -47,7 +48,7 @@ ghost use Rattle.board.specs.Outcome.{Outcome};
 ghost use Rattle.board.specs.declared.saved.RestoreFault.{RestoreFault};
 ghost use Rattle.board.specs.Moving.{MovesTo, RanOnBoth};
 ghost use Rattle.board.specs.Saved.{IsCauseOf, snapshot_of};
-ghost use Rattle.board.specs.Slot.{BoardSlot, SlotState, KeepsBesideDisk, KeepsBesideTransmit, state_of};
+ghost use Rattle.board.specs.Slot.{BoardSlot, SlotState, KeepsBesideDisk, KeepsBesideFurtherDisk, KeepsBesideTransmit, state_of, whole_extent};
 ghost use Rattle.board.specs.Untouched.{NeedsNoMemory, touches_memory, world_over};
 ghost use Rattle.board.specs.World.{BoardState, World, KeepsBoard, MayGive, Step, identities_of, world_of};
 ghost use Rattle.board.specs.Within.{Seat, IsNextWithin};
@@ -135,13 +136,13 @@ pub fn want_of_memory_keeps_the_rest<A: Allocator>()
         KeepsBesideTransmit before after × (new.health ≡ old.health) }
 {}
 
-/// An event in which calls of the image failed keeps all of its slot that a block request doesn't reach.
+/// An event in which calls of the image failed keeps all of its slot that a request of one disk over the image doesn't reach.
 /// Each request of its service counts one failure at most, so there are no more of them than requests.
 pub fn a_failed_event_keeps_the_rest<A: Allocator>()
     ensures rest { (old new : World) (event : Event A) (written : Record A) (before after : SlotState) →
         Step old event written new → old.health.failures < new.health.failures →
         slice_get old.slots event.slot ≡ Some before → slice_get new.slots event.slot ≡ Some after →
-        KeepsBesideDisk before after }
+        KeepsBesideDisk before after ⊎ KeepsBesideFurtherDisk before after }
     ensures failures { (device : BlockDevice) (start at : Site Queue Disk) (requests : List (Served Disk)) →
         ServesAll queue_kind (block_device device) start requests at →
         at.state.failures ≤ start.state.failures + length requests }
@@ -195,14 +196,14 @@ pub fn a_stop_between_events_loses_nothing<I: Image, A: Allocator>()
 pub fn a_cut_event_touches_no_other_disk<I: Image>()
     ensures known { (old new : BoardState I) (g since : ℕ) (own other : BoardSlot) (bytes left : List ℕ) →
         TouchesSlot I.moment I.may_leave I.left_since g old new → slice_get old.slots g ≡ Some own →
-        IsApart own.extent other.extent → Only bytes (I.may_leave old.image) →
+        IsApart (whole_extent own) (whole_extent other) → Only bytes (I.may_leave old.image) →
         BeginsAt (I.may_leave old.image) (I.left_since old.image) since → I.left_since new.image since left →
-        extent_of left other.extent.start other.extent.count ≡ extent_of bytes other.extent.start other.extent.count }
+        state_of left other ≡ state_of bytes other }
     ensures seen { (old new : BoardState I) (g since : ℕ) (own other : BoardSlot) (left : List ℕ) →
         TouchesSlot I.moment I.may_leave I.left_since g old new → slice_get old.slots g ≡ Some own →
-        IsApart own.extent other.extent → Tells (I.disk old.image) → (I.disk old.image).dirty ≡ false →
+        IsApart (whole_extent own) (whole_extent other) → Tells (I.disk old.image) → (I.disk old.image).dirty ≡ false →
         BeginsAt (I.may_leave old.image) (I.left_since old.image) since → I.left_since new.image since left →
-        extent_of left other.extent.start other.extent.count ≡ (state_of (bytes_of (I.disk old.image)) other).extent }
+        state_of left other ≡ state_of (bytes_of (I.disk old.image)) other }
 {}
 
 /// And a guest whose events met refusals is told what it may be told alone, where it meets such, and is left as it may be.

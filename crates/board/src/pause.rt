@@ -1,6 +1,6 @@
 //! A turn of a slot: what it is to do, the service that pauses in it, and what it comes to.
 
-ghost use Rattle.std.specs.Prelude.{◌≡◌};
+ghost use Rattle.std.specs.Prelude.{◌≡◌, None};
 ghost use Rattle.board.specs.Pausing.{reply_of, turn_of};
 
 use crate::event::EventKind;
@@ -30,6 +30,17 @@ pub struct Pause {
 }
 
 impl Pause {
+    // The service of an event that handed nothing in.
+    #[inline(always)]
+    pub(crate) fn of(service: Service) -> Pause
+        ensures { result ≡ record { service = service; taken = None } }
+    {
+        Pause {
+            service,
+            taken: None,
+        }
+    }
+
     // What the event is answered at the end of its service.
     #[inline(always)]
     pub(crate) fn reply<A: Allocator>(self) -> Reply<A>

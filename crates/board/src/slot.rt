@@ -13,7 +13,7 @@ ghost use Rattle.guest_memory.specs.Memory.{Inside, IsRest};
 ghost use Rattle.block_device.specs.Extent.{IsWithin, TouchesExtent};
 ghost use Rattle.board.specs.Lending.{LendsBytes, with_page_bits};
 ghost use Rattle.board.specs.Pausing.{BeginsOverImage, PausesByLimit, ServesOver, lacks_memory_in};
-ghost use Rattle.board.specs.Slot.{AreInterruptWords, IsUnnoted, host_by, interrupt_words, opened, state_of};
+ghost use Rattle.board.specs.Slot.{AreInterruptWords, IsUnnoted, host_by, interrupt_words, opened, state_of, whole_extent};
 ghost use Rattle.board.specs.World.{MayLackMemory};
 ghost use Rattle.board.specs.Fault.{HasRoom};
 ghost use Rattle.board.specs.Lent.{opened_over};
@@ -32,11 +32,11 @@ mod service;
 mod view;
 mod window;
 
-use crate::check::share;
+use crate::check::{own_extent, spare};
 use crate::counters::Counters;
 use crate::event::EventKind;
 use crate::host_disk::HostedDisk;
-use crate::pause::{Pause, Service, Turn};
+use crate::pause::Turn;
 use crate::reply::Reply;
 pub(crate) use crate::slot::memory::copy_out;
 use crate::spec::{Backing, SlotSpec};
@@ -55,8 +55,10 @@ use std_alloc::vec::Lodged;
 #[derive(Drop)]
 pub(crate) struct Slot<A: Allocator = Global> {
     memory: GuestMemory<A>,
-    // Its extent is what the slot has of the image.
+    // Its extent is what the slot has of the image, but for the spare sectors.
     block_device: BlockDevice,
+    // How many sectors of the image the slot has behind that extent, for its further disks.
+    spare: u64,
     // The disk that the host serves, in place of one of the image.
     host: Option<Box<HostedDisk<A>, A>>,
     // Whether no further chain of that disk's queue is taken.
@@ -82,6 +84,7 @@ impl<A: Allocator> Model for Slot<A> {
     ghost view = { λ s. record {
       memory = s.memory;
       extent = s.block_device.extent;
+      spare = s.spare;
       host = option_map (λ disk. disk.value) s.host;
       on_hold = s.on_hold;
       read_only = s.block_device.read_only;
@@ -132,10 +135,11 @@ impl<A: Allocator + Copy> Slot<A> {
         let Ok(console_device) = ConsoleDevice::new(alloc, spec.cols, spec.rows) else {
             return Err(AllocError);
         };
-        let block_device = BlockDevice::new(share(spec), spec.read_only, spec.identity);
+        let block_device = BlockDevice::new(own_extent(spec), spec.read_only, spec.identity);
         Ok(Slot {
             memory,
             block_device,
+            spare: spare(spec),
             host: host_of(alloc, spec)?,
             on_hold: false,
             block: Window::new(DeviceKind::Block, block_device.features()),
@@ -193,7 +197,7 @@ impl<A: Allocator + Copy> Slot<A> {
         cache: &mut SectorCache<I, A>,
         out: &mut O,
     ) -> Answer<A>
-        requires lies { IsWithin (I.disk cache.old).sector_count self.old.extent }
+        requires lies { IsWithin (I.disk cache.old).sector_count (whole_extent self.old) }
         ensures serves { ServesOver (BeginsOverImage what.now budget) self.old self.new (I.disk cache.old) (I.disk cache.new)
             result.turn (O.bytes out.old) (O.bytes out.new) }
         ensures within { DecidesOver (λ limit. BeginsWithinOverImage limit what.now budget) (O.limit out.old) self.old self.new
@@ -201,7 +205,7 @@ impl<A: Allocator + Copy> Slot<A> {
         ensures limit { O.limit out.new ≡ O.limit out.old }
         ensures unnoted { IsUnnoted self.old self.new (I.disk cache.old) (I.disk cache.new) result.failed }
         ensures host { self.new.host ≡ self.old.host }
-        ensures touches { TouchesExtent I.moment I.may_leave I.left_since self.old.extent cache.old cache.new }
+        ensures touches { TouchesExtent I.moment I.may_leave I.left_since (whole_extent self.old) cache.old cache.new }
         ensures limited { PausesByLimit budget result.turn }
         ensures there { result.turn ≢ Turn.Answered Reply.BadSlot }
         ensures bad_range { result.turn ≡ Turn.Answered Reply.BadRange →
@@ -209,18 +213,12 @@ impl<A: Allocator + Copy> Slot<A> {
         ensures no_memory { result.turn ≡ Turn.Answered Reply.NoMemory → (image : List ℕ) →
             MayLackMemory (state_of image self.old) what.now }
     {
-        match self.answer_beside_disk(alloc, what, budget, out) {
-            Some(turn) => Answer {
+        match self.answer_beside_image(alloc, what, budget, out) {
+            Ok(turn) => Answer {
                 turn,
                 failed: false,
             },
-            None => {
-                let pause = Pause {
-                    service: Service::Block,
-                    taken: None,
-                };
-                self.serve_piece(pause, Stage::First, budget, cache, out)
-            }
+            Err(pause) => self.serve_piece(pause, Stage::First, budget, cache, out),
         }
     }
 }

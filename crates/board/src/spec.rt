@@ -22,6 +22,9 @@ pub struct SlotSpec {
     pub regions: Regions,
     /// The sectors that the guest's block device shows: those of the image, or as many of a disk that the host serves.
     pub extent: Extent,
+    /// How many sectors of the image behind them the slot has beside, for its further disks. Of a slot whose disk the host
+    /// serves it isn't read.
+    pub spare: u64,
     /// Who has their bytes.
     pub backing: Backing,
     /// Whether the block device refuses writes (VIRTIO_BLK_F_RO, 5.2.3).

@@ -5,7 +5,7 @@ use Rattle.guest_memory.specs.declared.spec.RegionSpec.{RegionSpec}
 
 -- how many bytes a slot has that this version describes
 abbrev pub slot_size : ℕ
-slot_size = 528
+slot_size = 584
 
 -- the regions that C describes: those before the first that has no bytes
 abbrev pub regions_of : List RegionSpec → List RegionSpec

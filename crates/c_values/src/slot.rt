@@ -28,6 +28,8 @@ pub struct Device {
     pub depth: u32,
     /// How many sectors a disk has.
     pub sectors: u64,
+    /// Where the sectors of a disk over the image begin, among the slot's spare ones.
+    pub start: u64,
     /// What it answers to GET_ID.
     pub identity: [u8; 20],
     /// Whether it refuses writes.
@@ -50,6 +52,9 @@ pub struct Slot {
     pub start: u64,
     /// How many sectors its disk has.
     pub count: u64,
+    /// How many sectors of the image behind them it has beside, for its further disks. Nothing is read of it where the host serves the
+    /// disk.
+    pub spare: u64,
     pub cols: u16,
     pub rows: u16,
     /// How many bytes of its console's output may wait to be taken.

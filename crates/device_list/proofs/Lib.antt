@@ -6,3 +6,5 @@ pub mod Pieces
 pub mod Sound
 pub mod Saved
 pub mod RoundTrip
+pub mod Extents
+pub mod Disks

@@ -25,7 +25,7 @@ use Rattle.hosted_disk.proofs.One.{serve_disk, tell_disk}
 use Rattle.device_list.specs.Card.{Card, ReceivesFrames, ServesCard, TransmitsFrames, card_limits, kept_behind}
 use Rattle.device_list.specs.Device.{DeviceState, Receives, ServesAfter, ServesNotified, Supplies, TakesSent, Told, Writes, device_written, notified_by, received, supplied}
 use Rattle.device_list.specs.List.{At}
-use Rattle.device_list.specs.Model.{ModelState, Entropy, Network as NetworkModel, Block as BlockModel, Console as ConsoleModel, Serves, ServesAs, without_sent}
+use Rattle.device_list.specs.Model.{ModelState, Entropy, Network as NetworkModel, Block as BlockModel, Console as ConsoleModel, Image as ImageModel, Serves, ServesAs, without_sent}
 use Rattle.device_list.specs.Terminal.{ReceivesInput, ServesTerminal, Terminal, TransmitsOutput, terminal_limit}
 use Rattle.device_list.proofs.Cards.{receive_decides, transmit_decides}
 
@@ -145,6 +145,8 @@ serves_once (BlockModel disk) q m n o u v w one other a b =
 serves_once (ConsoleModel terminal) q m n o u v w one other a b =
     as_once ConsoleModel (ServesTerminal terminal q m n u v) (ServesTerminal terminal q m o u w) n o v w one other
     (λ s t x y. terminal_once terminal q m n o u v w s t x y) a b
+serves_once (ImageModel disk) q m n o u v w one other a b =
+    neither_happens m n o u v w (ImageModel disk) one other a b
 
 notified_serves_once : (queue : Option ℕ) (m n o : Memory) (old one other : DeviceState)
     → ServesNotified queue m n old one → ServesNotified queue m o old other

@@ -19,7 +19,7 @@ use Rattle.network_device.specs.Device.{Passing, passing, receive, receive_fitti
 use Rattle.device_list.specs.Card.{Card, CardServesTo, ReceivesFrames, ReceivesFramesTo, ServesCard, card_limits}
 use Rattle.device_list.specs.Device.{DeviceServesTo, DeviceState, ServesDevice}
 use Rattle.device_list.specs.List.{At, DevicesServeTo, ServesAny, changed_at}
-use Rattle.device_list.specs.Model.{ModelState, Entropy, Network, Block, Console, ModelServesTo, Serves, ServesAs}
+use Rattle.device_list.specs.Model.{ModelState, Entropy, Network, Block, Console, Image, ModelServesTo, Serves, ServesAs}
 use Rattle.device_list.specs.Terminal.{ServesTerminal, Terminal, TerminalServesTo, terminal_limit}
 use Rattle.device_list.proofs.Cards.{receive_fits, receives_whole, with_sent, with_waiting}
 use Rattle.device_list.proofs.Services.{once, piece_fits, spends_limit}
@@ -66,6 +66,7 @@ ModelUnderWay (Network card) q m m' w w' model' = ServesAs Network (CardUnderWay
 ModelUnderWay (Block disk) q m m' w w' model' = ⊥
 ModelUnderWay (Console terminal) q m m' w w' model' =
     ServesAs Console (TerminalUnderWay terminal q m m' w w') model'
+ModelUnderWay (Image disk) q m m' w w' model' = ⊥
 
 abbrev pub DeviceUnderWay : ℕ → Memory → Memory → DeviceState → DeviceState → Type 0
 DeviceUnderWay q m m' d d' = ModelUnderWay d.model q m m' d.window d'.window d'.model
@@ -225,6 +226,7 @@ model_once budget (Network card) q m m' w w' model' h =
 model_once budget (Block disk) q m m' w w' model' h = h.1
 model_once budget (Console terminal) q m m' w w' model' h =
     record { after = h.after; serves = terminal_once budget terminal h.after q m m' w w' h.serves; is = h.is }
+model_once budget (Image disk) q m m' w w' model' h = h.1
 
 model_first : (budget : Budget) (model : ModelState) (q : ℕ) (m m' : Memory) (w w' : WindowState)
     (model' : ModelState) → ModelServesTo First budget More model q m m' w w' model'
@@ -237,6 +239,7 @@ model_first budget (Network card) q m m' w w' model' h =
 model_first budget (Block disk) q m m' w w' model' h = let done = h.0 in absurd (cc (done))
 model_first budget (Console terminal) q m m' w w' model' h =
     record { after = h.after; serves = terminal_first budget terminal h.after q m m' w w' h.serves; is = h.is }
+model_first budget (Image disk) q m m' w w' model' h = let done = h.0 in absurd (cc (done))
 
 module _ (budget : Budget) (m0 m1 m2 : Memory) (w0 w1 w2 : WindowState) where
   model_again : (model now model' : ModelState) (q : ℕ) → ModelUnderWay model q m0 m1 w0 w1 now
@@ -260,6 +263,7 @@ module _ (budget : Budget) (m0 m1 m2 : Memory) (w0 w1 w2 : WindowState) where
         serves = terminal_again budget terminal m0 m1 m2 w0 w1 w2 u.after p.after q u.serves p.serves;
         is = p.is;
       }
+  model_again (Image disk) now model' q u h = absurd u
 
   model_ended : (model now model' : ModelState) (q : ℕ) → ModelUnderWay model q m0 m1 w0 w1 now
       → ModelServesTo Next budget Done now q m1 m2 w1 w2 model' → Serves model q m0 m2 w0 w2 model'
@@ -282,6 +286,7 @@ module _ (budget : Budget) (m0 m1 m2 : Memory) (w0 w1 w2 : WindowState) where
         serves = terminal_ended budget terminal m0 m1 m2 w0 w1 w2 u.after p.after q u.serves p.serves;
         is = p.is;
       }
+  model_ended (Image disk) now model' q u h = absurd u
 
 -- ---- a piece that pauses has spent a limit
 
@@ -314,6 +319,7 @@ module _ (stage : Stage) (budget : Budget) (m m' : Memory) (w w' : WindowState) 
   model_by_limit (Network card) model' q h = card_by_limit card h.after q h.serves
   model_by_limit (Block disk) model' q h = let done = h.0 in absurd (cc (done))
   model_by_limit (Console terminal) model' q h = terminal_by_limit terminal h.after q h.serves
+  model_by_limit (Image disk) model' q h = let done = h.0 in absurd (cc (done))
 
 -- ---- a list of devices
 

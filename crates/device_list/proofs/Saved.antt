@@ -1,5 +1,5 @@
 -- Devices one after another: what is said of the first and of the others is said of all.
-use Rattle.std.proofs.Common.{append_assoc, ◌≡◌, ◌∙◌, ◌↔◌, ℕ, zero, suc, ◌-◌, ◌≤◌, ◌||◌, Option, Some, Bool, true, false, List, [], ◌∷◌, length, length-set, slice_index_or, take, drop, refl, sym, ap, subst, arith}
+use Rattle.std.proofs.Common.{append-nil, append_assoc, ◌≡◌, ◌∙◌, ◌↔◌, ℕ, zero, suc, ◌-◌, ◌≤◌, ◌||◌, Option, Some, Bool, true, false, List, [], ◌∷◌, length, length-set, slice_index_or, take, drop, refl, sym, ap, subst, arith}
 use Rattle.std.specs.Prelude.{◌<◌, ◌++◌, None, IfSome, IsTrue, nat_le, slice_set}
 use Rattle.std.specs.List.{slice_get}
 use Rattle.std.specs.Option.{MatchOption, option_map}
@@ -10,10 +10,10 @@ use Rattle.mmio_window.specs.Soundness.{IsSound}
 use Rattle.mmio_window.specs.Window.{WindowState}
 use Rattle.std.proofs.lemmas.Bool.{le-leb, lt-leb}
 use Rattle.snapshot.specs.declared.saved.SavedDevice.{SavedDevice}
-use Rattle.device_list.specs.declared.spec.AddRefusal.TheVariants.{BadDisk, BadMtu, TooMany}
+use Rattle.device_list.specs.declared.spec.AddRefusal.TheVariants.{BadDisk, BadExtent, BadMtu, TooMany}
 use Rattle.device_list.specs.declared.spec.DeviceSpec.{DeviceSpec}
 use Rattle.device_list.specs.Device.{DeviceState, IsSoundDevice}
-use Rattle.device_list.specs.List.{AreSoundDevices, are_at_work, refusal_of}
+use Rattle.device_list.specs.List.{AreSoundDevices, are_at_work, has_bad_extent, refusal_of}
 use Rattle.device_list.specs.Model.{features_of, has_bad_disk, has_bad_mtu, is_at_work, kind_of}
 use Rattle.device_list.specs.Saved.{RestoresEach, SuitDevices, SuitsDevice, device_window_restored, first_restored, saved_device, saved_devices}
 use Rattle.device_list.proofs.Sound.{all_sound, held_idle}
@@ -63,27 +63,30 @@ more [] [] some none suit = absurd (omega arith)
 more [] (y ∷ ds) some none suit = suit
 more (x ∷ ss) ds some none suit = absurd (omega arith)
 
--- a device is added to fewer than six, where its MTU isn't too low and it is a disk that there may be
-pub not_refused : (devices : List DeviceState) (spec : DeviceSpec) (n : ℕ) → n ≡ length devices → n < 6
-    → has_bad_mtu spec ≡ false → has_bad_disk spec ≡ false → refusal_of devices spec ≡ None
-not_refused devices spec n is few fits may =
-    let room : nat_le 6 (length devices) ≡ false = lt-leb _ _ (omega (arith, is, few)) in rw (room, fits, may) refl
+module _ (devices : List DeviceState) (spare : ℕ) (spec : DeviceSpec) (n : ℕ) (is : n ≡ length devices) where
+  -- a device isn't added to six, and else for the first cause that there is
+  pub too_many : 6 ≤ n → refusal_of devices spare spec ≡ Some TooMany
+  too_many many =
+      let full : nat_le 6 (length devices) ≡ true = le-leb _ _ (omega (arith, is, many)) in rw (full) refl
 
--- and else it isn't, for the first cause that there is
-pub too_many : (devices : List DeviceState) (spec : DeviceSpec) (n : ℕ) → n ≡ length devices → 6 ≤ n
-    → refusal_of devices spec ≡ Some TooMany
-too_many devices spec n is many =
-    let full : nat_le 6 (length devices) ≡ true = le-leb _ _ (omega (arith, is, many)) in rw (full) refl
+  module _ (few : n < 6) where
+    room : nat_le 6 (length devices) ≡ false
+    room = lt-leb _ _ (omega (arith, is, few))
 
-pub bad_mtu : (devices : List DeviceState) (spec : DeviceSpec) (n : ℕ) → n ≡ length devices → n < 6
-    → has_bad_mtu spec ≡ true → refusal_of devices spec ≡ Some BadMtu
-bad_mtu devices spec n is few bad =
-    let room : nat_le 6 (length devices) ≡ false = lt-leb _ _ (omega (arith, is, few)) in rw (room, bad) refl
+    pub bad_mtu : has_bad_mtu spec ≡ true → refusal_of devices spare spec ≡ Some BadMtu
+    bad_mtu bad = rw (room, bad) refl
 
-pub bad_disk : (devices : List DeviceState) (spec : DeviceSpec) (n : ℕ) → n ≡ length devices → n < 6
-    → has_bad_mtu spec ≡ false → has_bad_disk spec ≡ true → refusal_of devices spec ≡ Some BadDisk
-bad_disk devices spec n is few fits bad =
-    let room : nat_le 6 (length devices) ≡ false = lt-leb _ _ (omega (arith, is, few)) in rw (room, fits, bad) refl
+    module _ (fits : has_bad_mtu spec ≡ false) where
+      pub bad_disk : has_bad_disk spec ≡ true → refusal_of devices spare spec ≡ Some BadDisk
+      bad_disk bad = rw (room, fits, bad) refl
+
+      module _ (may : has_bad_disk spec ≡ false) where
+        pub bad_extent : has_bad_extent devices spare spec ≡ true → refusal_of devices spare spec ≡ Some BadExtent
+        bad_extent bad = rw (room, fits, may, bad) refl
+
+        -- where there is none it is added
+        pub not_refused : has_bad_extent devices spare spec ≡ false → refusal_of devices spare spec ≡ None
+        not_refused free = rw (room, fits, may, free) refl
 
 -- ---- an element
 
@@ -262,6 +265,14 @@ pub saved_more : (out : List SavedDevice) (ds : List DeviceState) (d : DeviceSta
 saved_more out [] d s some is saved = absurd (omega arith)
 saved_more out (y ∷ ds) d s some is saved =
     rw (behind_is y ds, saved, is) (append_assoc out (saved_device y ∷ []) (saved_devices ds))
+
+pub saved_none : (out : List SavedDevice) (ds : List DeviceState) → length ds < 1 → out ≡ out ++ saved_devices ds
+saved_none out [] none = sym (append-nil out)
+saved_none out (y ∷ ds) none = absurd (omega arith)
+
+pub restores_none : (m : Memory) (ds : List DeviceState) → length ds < 1 → RestoresEach m ds
+restores_none m [] none = tt
+restores_none m (y ∷ ds) none = absurd (omega arith)
 
 pub none_suit : (ss : List SavedDevice) (ds : List DeviceState) → length ds < 1 → length ss < 1 → SuitDevices ss ds
 none_suit [] [] none all = tt

@@ -1,6 +1,6 @@
 -- Devices stay sound where the bytes of the memory change, and where one of them does its part.
 use Rattle.std.proofs.Common.{◌≡◌, ℕ, List, refl, sym, ◌∙◌, subst}
-use Rattle.std.specs.Prelude.{◌<◌, [], ◌∷◌, ◌++◌, Bool, true, false, if◌then◌else◌, get_or, length, slice_set}
+use Rattle.std.specs.Prelude.{IsSome, ◌<◌, [], ◌∷◌, ◌++◌, Bool, true, false, if◌then◌else◌, get_or, length, slice_set}
 use Rattle.std.proofs.lemmas.List.Elements.{All-get_or, All-push, All-set, All-weaker}
 use Rattle.guest_memory.specs.Memory.{Memory, SameRange}
 use Rattle.mmio_window.proofs.Soundness.{IsSound-same_range}
@@ -12,9 +12,10 @@ use Rattle.device_list.specs.declared.spec.DeviceSpec.{DeviceSpec}
 use Rattle.device_list.specs.Device.{DeviceState, IsSoundDevice, fresh_device}
 use Rattle.device_list.specs.List.{AreSoundDevices}
 use Rattle.hosted_disk.specs.Disk.{fresh_disk}
-use Rattle.hosted_disk.proofs.Flights.{idle_held, keeps_all, none_taken, still_held, written_held}
+use Rattle.block_device.proofs.Freeing.{none_in_flight}
+use Rattle.hosted_disk.proofs.Flights.{idle_held, keeps_all, still_held, written_held}
 use Rattle.device_list.specs.declared.spec.DeviceSpec.TheVariants as spec
-use Rattle.device_list.specs.Model.{ModelState, Block, Console, Entropy, Network, IsHeld, KeepsModel, features_of, fresh_model, is_at_work, kind_of, must_wait}
+use Rattle.device_list.specs.Model.{ModelState, Block, Console, Entropy, Image, Network, IsHeld, KeepsModel, features_of, fresh_model, image_of, is_at_work, kind_of, must_wait}
 
 -- a device that was sound is so with this window and this model
 pub made_sound : (m m' : Memory) (d : DeviceState) (w : WindowState) (model : ModelState) → IsSoundDevice m d
@@ -37,6 +38,7 @@ held_over m m' w (Block disk) range held = still_held m m' w w disk range (keeps
 held_over m m' w (Entropy pool) range held = tt
 held_over m m' w (Network card) range held = tt
 held_over m m' w (Console terminal) range held = tt
+held_over m m' w (Image disk) range held = tt
 
 -- and where nothing is in flight
 pub held_idle : (m : Memory) (w : WindowState) (model : ModelState) → is_at_work model ≡ false → IsHeld m w model
@@ -44,6 +46,15 @@ held_idle m w (Block disk) idle = idle_held m w disk idle
 held_idle m w (Entropy pool) idle = tt
 held_idle m w (Network card) idle = tt
 held_idle m w (Console terminal) idle = tt
+held_idle m w (Image disk) idle = tt
+
+-- nothing is in flight of a disk over the image
+held_of_image : (m : Memory) (w : WindowState) (model : ModelState) → IsSome (image_of model) → IsHeld m w model
+held_of_image m w (Image disk) some = tt
+held_of_image m w (Block disk) none = absurd (cc none)
+held_of_image m w (Entropy pool) none = tt
+held_of_image m w (Network card) none = tt
+held_of_image m w (Console terminal) none = tt
 
 -- behind a write that doesn't wait
 held_written : (offset width value : ℕ) (m : Memory) (w : WindowState) (model : ModelState)
@@ -52,14 +63,16 @@ held_written offset width value m w (Block disk) free held = written_held offset
 held_written offset width value m w (Entropy pool) free held = tt
 held_written offset width value m w (Network card) free held = tt
 held_written offset width value m w (Console terminal) free held = tt
+held_written offset width value m w (Image disk) free held = tt
 
 -- in a window as after a reset
 held_fresh : (m : Memory) (w : WindowState) (spec : DeviceSpec) → IsHeld m w (fresh_model spec)
 held_fresh m w spec.Entropy = tt
 held_fresh m w (spec.Network mac mtu) = tt
 held_fresh m w (spec.Block sectors read_only identity depth) =
-    idle_held m w (fresh_disk sectors read_only identity depth) (none_taken depth)
+    idle_held m w (fresh_disk sectors read_only identity depth) (none_in_flight _ depth)
 held_fresh m w (spec.Console cols rows) = tt
+held_fresh m w (spec.Image extent read_only identity) = tt
 
 pub sound_over : (m m' : Memory) (d : DeviceState) → SameRange m m' → IsSoundDevice m d → IsSoundDevice m' d
 sound_over m m' d range sound = record {
@@ -82,6 +95,16 @@ written_sound m d offset width value w model is free keeps stays sound =
 
 pub keeps_itself : (model : ModelState) → KeepsModel model model
 keeps_itself model = record { kind = refl; features = refl; held = λ m w held. held }
+
+-- a disk over the image stays sound with its window as a service leaves it
+pub image_sound : (m m' : Memory) (d : DeviceState) (w w' : WindowState) (model : ModelState)
+    → ◌≡◌ {A = DeviceState} (record { window = w; model = model }) d → IsSome (image_of d.model) → IsSoundDevice m d
+    → KeepsDevice w w' → IsSound m' w' → IsSoundDevice m' (record { window = w'; model = model })
+image_sound m m' d w w' model is some sound same here =
+    let was = subst (λ (e : DeviceState). IsSoundDevice m e) (sym is) sound in
+    let over = subst (λ (e : DeviceState). IsSome (image_of e.model)) (sym is) some in
+    made_sound m m' (record { window = w; model = model }) w' model was same.kind same.offered refl refl here
+    (held_of_image m' w' model over)
 
 -- ---- each of them
 

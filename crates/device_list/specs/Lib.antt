@@ -1,5 +1,6 @@
 pub mod Card
 pub mod Device
+pub mod Image
 pub mod List
 pub mod Model
 pub mod Saved

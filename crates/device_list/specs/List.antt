@@ -1,5 +1,5 @@
 -- The list of devices: one of them changes, and the others stay.
-use Rattle.std.specs.Prelude.{◌≡◌, ℕ, All, Bool, true, nat_le, if◌then◌else◌, Option, Some, None, List, length, slice_set}
+use Rattle.std.specs.Prelude.{◌≡◌, ◌+◌, ◌==◌, ◌||◌, ◌&&◌, ℕ, All, Bool, true, false, nat_le, nat_lt, if◌then◌else◌, Option, Some, None, List, length, slice_set}
 use Rattle.std.specs.List.{list_any, slice_get}
 use Rattle.std.specs.Option.{option_and_then, option_map_or}
 use Rattle.guest_memory.specs.Memory.{Memory}
@@ -9,14 +9,17 @@ use Rattle.chain.specs.declared.budget.Progress.TheVariants.{Done}
 use Rattle.mmio_window.specs.declared.stage.Stage.{Stage}
 use Rattle.mmio_window.specs.Writing.{action_of}
 use Rattle.device_list.specs.declared.spec.AddRefusal.{AddRefusal}
-use Rattle.device_list.specs.declared.spec.AddRefusal.TheVariants.{TooMany, BadMtu, BadDisk, NoMemory}
+use Rattle.device_list.specs.declared.spec.AddRefusal.TheVariants.{TooMany, BadMtu, BadDisk, BadExtent, NoMemory}
 use Rattle.device_list.specs.declared.refusal.WriteRefusal.{WriteRefusal}
 use Rattle.device_list.specs.declared.refusal.WriteRefusal.TheVariants.{NoDevice, Busy}
 use Rattle.device_list.specs.declared.spec.DeviceSpec.{DeviceSpec}
+use Rattle.device_list.specs.declared.spec.DeviceSpec.TheVariants as spec
+use Rattle.block_device.specs.declared.device.BlockDevice.{BlockDevice}
+use Rattle.block_device.specs.declared.extent.Extent.{Extent}
 use Rattle.device_list.specs.Card.{Card}
 use Rattle.device_list.specs.Device.{DeviceServesTo, DeviceState, IsSoundDevice, notified_by}
 use Rattle.hosted_disk.specs.Disk.{HostedDisk}
-use Rattle.device_list.specs.Model.{card_of, disk_of, has_bad_disk, has_bad_mtu, is_at_work, is_starving, must_wait, outgoing_of, terminal_of}
+use Rattle.device_list.specs.Model.{card_of, disk_of, has_bad_disk, has_bad_mtu, image_of, is_at_work, is_starving, must_wait, outgoing_of, terminal_of}
 use Rattle.device_list.specs.Terminal.{Terminal}
 
 -- each device is sound for the memory
@@ -70,9 +73,13 @@ outgoing_at n devices = option_and_then (λ d. outgoing_of d.model) (slice_get d
 abbrev pub sent_by : ℕ → List DeviceState → Option (List ℕ)
 sent_by n devices = option_and_then (λ waits. waits) (outgoing_at n devices)
 
--- the disk of this number, if there is one
+-- the disk of this number that the host serves, if there is one
 abbrev pub disk_at : ℕ → List DeviceState → Option HostedDisk
 disk_at n devices = option_and_then (λ d. disk_of d.model) (slice_get devices n)
+
+-- the disk over the image of this number, if there is one
+abbrev pub image_at : ℕ → List DeviceState → Option BlockDevice
+image_at n devices = option_and_then (λ d. image_of d.model) (slice_get devices n)
 
 -- whether a write at this offset of the device's window waits for what is in flight
 abbrev pub waits_at : ℕ → DeviceState → Bool
@@ -91,19 +98,34 @@ IsWriteRefusal offset (Some d) why = (why ≡ Busy) × (waits_at offset d ≡ tr
 abbrev pub are_at_work : List DeviceState → Bool
 are_at_work devices = list_any (λ d. is_at_work d.model) devices
 
--- Why a device isn't added to these, where it isn't for want of memory: there are six, its MTU is too low, or it is no
--- disk that there may be.
-abbrev pub refusal_of : List DeviceState → DeviceSpec → Option AddRefusal
-refusal_of devices spec =
+-- whether two extents have a sector in common
+abbrev pub do_overlap : Extent → Extent → Bool
+do_overlap one other = nat_lt one.start (other.start + other.count) && nat_lt other.start (one.start + one.count)
+
+-- whether a device is a disk over the image that has one of these sectors
+abbrev pub has_some_of : Extent → DeviceState → Bool
+has_some_of extent d = option_map_or (λ disk. do_overlap extent disk.extent) (image_of d.model) false
+
+-- whether a disk over the image is to have no sectors, one that isn't among so many spare ones, or one that another has
+abbrev pub has_bad_extent : List DeviceState → ℕ → DeviceSpec → Bool
+has_bad_extent devices spare (spec.Image extent read_only identity) =
+    extent.count == 0 || (nat_lt spare (extent.start + extent.count) || list_any (has_some_of extent) devices)
+has_bad_extent devices spare spec = false
+
+-- Why a device isn't added to these, where it isn't for want of memory and so many sectors are spare: there are six, its
+-- MTU is too low, it is no disk that there may be, or it is one over sectors that it can't have.
+abbrev pub refusal_of : List DeviceState → ℕ → DeviceSpec → Option AddRefusal
+refusal_of devices spare spec =
     if nat_le 6 (length devices) then Some TooMany
     else if has_bad_mtu spec then Some BadMtu
     else if has_bad_disk spec then Some BadDisk
+    else if has_bad_extent devices spare spec then Some BadExtent
     else None
 
 -- It isn't added for this: want of memory comes last.
-abbrev pub IsRefusedFor : List DeviceState → DeviceSpec → AddRefusal → Type 0
-IsRefusedFor devices spec NoMemory = refusal_of devices spec ≡ None
-IsRefusedFor devices spec why = refusal_of devices spec ≡ Some why
+abbrev pub IsRefusedFor : List DeviceState → ℕ → DeviceSpec → AddRefusal → Type 0
+IsRefusedFor devices spare spec NoMemory = refusal_of devices spare spec ≡ None
+IsRefusedFor devices spare spec why = refusal_of devices spare spec ≡ Some why
 
 -- whether a chain of the device is on offer that waits for what its host supplies or sends
 abbrev pub is_starved_at : Memory → DeviceState → Bool

@@ -18,8 +18,9 @@ use Rattle.entropy_device.specs.Waiting.{is_starved}
 use Rattle.network_device.specs.Config as network
 use Rattle.console_device.specs.Config as console
 use Rattle.console_device.specs.Input as console_input
+use Rattle.block_device.specs.declared.device.BlockDevice.{BlockDevice}
 use Rattle.block_device.specs.Config as block
-use Rattle.block_device.specs.Flights.{is_any}
+use Rattle.block_device.specs.Tags.{is_any}
 use Rattle.hosted_disk.specs.Disk as hosted
 use Rattle.hosted_disk.specs.Disk.{HoldsFlights, HostedDisk, ServesDisk, fresh_disk}
 use Rattle.device_list.specs.declared.model.DeviceModel.{DeviceModel}
@@ -29,12 +30,14 @@ use Rattle.device_list.specs.declared.spec.DeviceSpec.TheVariants as spec
 use Rattle.device_list.specs.Card.{Card, CardServesTo, ServesCard, fresh_card, is_card_starving, oldest_of, without_oldest}
 use Rattle.device_list.specs.Terminal.{Terminal, TerminalServesTo, ServesTerminal, fresh_terminal, is_terminal_starving, output_of, terminal_configured, with_typed, without_output}
 
--- an entropy device with its pool, a network card, a disk that the host serves, or a console
+-- An entropy device with its pool, a network card, a disk that the host serves, a console, or a disk over the image, whose
+-- extent numbers the slot's spare sectors.
 pub data ModelState : Type 0 where
   Entropy : List ℕ → ModelState
   Network : Card → ModelState
   Block : HostedDisk → ModelState
   Console : Terminal → ModelState
+  Image : BlockDevice → ModelState
 
 -- the same, wherever its memory is from
 abbrev pub state_of : {A : Type 0} → DeviceModel A → ModelState
@@ -42,13 +45,15 @@ state_of (model.Entropy pool) = Entropy pool
 state_of (model.Network card) = Network card
 state_of (model.Block disk) = Block disk
 state_of (model.Console terminal) = Console terminal
+state_of (model.Image disk) = Image disk
 
 -- whether a device is to have an MTU that is below the least (5.1.4.1)
 abbrev pub has_bad_mtu : DeviceSpec → Bool
 has_bad_mtu (spec.Network mac mtu) = nat_lt mtu 68
 has_bad_mtu spec = false
 
--- whether a disk is to have so many sectors that its bytes aren't counted in 64 bits, or another depth than 1 to 64
+-- whether a disk that the host serves is to have so many sectors that its bytes aren't counted in 64 bits, or another
+-- depth than 1 to 64
 abbrev pub has_bad_disk : DeviceSpec → Bool
 has_bad_disk (spec.Block sectors read_only identity depth) = nat_le (2 ^ 55) sectors || (depth == 0 || nat_lt 64 depth)
 has_bad_disk spec = false
@@ -59,6 +64,8 @@ fresh_model spec.Entropy = Entropy []
 fresh_model (spec.Network mac mtu) = Network (fresh_card mac mtu)
 fresh_model (spec.Block sectors read_only identity depth) = Block (fresh_disk sectors read_only identity depth)
 fresh_model (spec.Console cols rows) = Console (fresh_terminal cols rows)
+fresh_model (spec.Image extent read_only identity) =
+    Image (record { extent = extent; read_only = read_only; identity = identity })
 
 -- the type of device
 abbrev pub kind_of : ModelState → DeviceKind
@@ -66,6 +73,7 @@ kind_of (Entropy pool) = kind.Entropy
 kind_of (Network card) = kind.Network
 kind_of (Block disk) = kind.Block
 kind_of (Console terminal) = kind.Console
+kind_of (Image disk) = kind.Block
 
 -- the features that it offers: an entropy device has none of its own (5.4.3)
 abbrev pub features_of : ModelState → ℕ
@@ -73,6 +81,7 @@ features_of (Entropy pool) = device_features
 features_of (Network card) = network.offered + device_features
 features_of (Block disk) = block.block_features disk.device.read_only
 features_of (Console terminal) = console.console_features
+features_of (Image disk) = block.block_features disk.read_only
 
 -- its configuration space: an entropy device has no fields (5.4.4)
 abbrev pub config_of : ModelState → List ℕ
@@ -80,6 +89,7 @@ config_of (Entropy pool) = replicate 64 0
 config_of (Network card) = network.config_of card.network.configuration
 config_of (Block disk) = block.config_of disk.device.extent.count
 config_of (Console terminal) = console.config_of terminal.console.cols terminal.console.rows
+config_of (Image disk) = block.config_of disk.extent.count
 
 -- The pool's bytes go into the chains on offer (5.4.6).
 pub record FillsChains (pool : List ℕ) (m m' : Memory) (w w' : WindowState) (model' : ModelState) : Type 0 where
@@ -93,13 +103,14 @@ pub record ServesAs {State : Type 0} (kind : State → ModelState) (Does : State
   pub serves : Does after
   pub is : model' ≡ kind after
 
--- what a device does whose queue of this number is notified
+-- What a device does whose queue of this number is notified. A disk over the image is served by whoever has the image.
 abbrev pub Serves : ModelState → ℕ → Memory → Memory → WindowState → WindowState → ModelState → Type 0
 Serves (Entropy pool) zero m m' w w' model' = FillsChains pool m m' w w' model'
 Serves (Entropy pool) (suc q) m m' w w' model' = NothingHappens m m' w w' (Entropy pool) model'
 Serves (Network card) q m m' w w' model' = ServesAs Network (ServesCard card q m m' w w') model'
 Serves (Block disk) q m m' w w' model' = ServesAs Block (ServesDisk disk q m m' w w') model'
 Serves (Console terminal) q m m' w w' model' = ServesAs Console (ServesTerminal terminal q m m' w w') model'
+Serves (Image disk) q m m' w w' model' = NothingHappens m m' w w' (Image disk) model'
 
 -- a piece of the filling of chains
 pub record FillsChainsTo (stage : Stage) (budget : Budget) (progress : Progress) (pool : List ℕ) (m m' : Memory)
@@ -122,6 +133,8 @@ ModelServesTo stage budget progress (Block disk) q m m' w w' model' = (progress 
     × ServesAs Block (ServesDisk disk q m m' w w') model'
 ModelServesTo stage budget progress (Console terminal) q m m' w w' model' =
     ServesAs Console (TerminalServesTo stage budget progress terminal q m m' w w') model'
+ModelServesTo stage budget progress (Image disk) q m m' w w' model' = (progress ≡ Done)
+    × NothingHappens m m' w w' (Image disk) model'
 
 -- The device once this value was written at this offset of its window's configuration: a console may take it.
 abbrev pub configured : ℕ → ℕ → ModelState → ModelState
@@ -184,6 +197,7 @@ is_starving (Entropy pool) m w = is_starved m (queue_at 0 w) pool
 is_starving (Network card) m w = is_card_starving card m w
 is_starving (Block disk) m w = false
 is_starving (Console terminal) m w = is_terminal_starving terminal m w
+is_starving (Image disk) m w = false
 
 -- ---- a disk that the host serves
 
@@ -212,3 +226,10 @@ is_at_work model = false
 abbrev pub must_wait : ℕ → ModelState → Bool
 must_wait offset (Block disk) = hosted.must_wait offset disk
 must_wait offset model = false
+
+-- ---- a disk over the image
+
+-- the disk that it is, if it is one
+abbrev pub image_of : ModelState → Option BlockDevice
+image_of (Image disk) = Some disk
+image_of model = None

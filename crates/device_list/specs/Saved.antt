@@ -10,7 +10,7 @@ use Rattle.mmio_window.specs.Saved.{saved_window, window_restored}
 use Rattle.mmio_window.specs.Window.{WindowState}
 use Rattle.snapshot.specs.declared.saved.SavedDevice.{SavedDevice}
 use Rattle.device_list.specs.Device.{DeviceState}
-use Rattle.device_list.specs.Model.{ModelState, Block, Network, kind_of}
+use Rattle.device_list.specs.Model.{ModelState, Block, Image, Network, kind_of}
 
 -- the address and the MTU of a network card (5.1.4), and zeros of another device
 abbrev pub mac_of : ModelState → List ℕ
@@ -24,10 +24,12 @@ mtu_of model = 0
 -- how many sectors a disk has, and what it answers to GET_ID (5.2.6), and zeros of another device
 abbrev pub sectors_of : ModelState → ℕ
 sectors_of (Block disk) = disk.device.extent.count
+sectors_of (Image disk) = disk.extent.count
 sectors_of model = 0
 
 abbrev pub identity_of : ModelState → List ℕ
 identity_of (Block disk) = disk.device.identity
+identity_of (Image disk) = disk.identity
 identity_of model = replicate 20 0
 
 -- what is saved of a device

@@ -9,6 +9,7 @@ ghost use Rattle.device_list.specs.List.{notified_at};
 ghost use Rattle.device_list.specs.Model.{has_bad_disk, has_bad_mtu, must_wait, state_of};
 
 mod host;
+mod image;
 mod saved;
 
 use crate::model::DeviceModel;

@@ -8,6 +8,7 @@ ghost use Rattle.device_list.specs.Device.{device_written, fresh_device, registe
 ghost use Rattle.device_list.specs.List.{AreSoundDevices, DevicesServeTo, IsRefusedFor, IsWriteRefusal, changed_at, notified_at, refusal_of, waits_at};
 
 mod host;
+mod image;
 mod saved;
 
 use crate::device::VirtioDevice;
@@ -38,16 +39,16 @@ impl<A: Allocator> Model for DeviceList<A> {
 
 impl<A: Allocator + Copy> DeviceList<A> {
     /// Adds a device behind those that are there, as after a reset, and answers its number. All the memory that it will ever
-    /// need is taken here.
-    pub fn add(&mut self, alloc: A, spec: DeviceSpec) -> Result<u8, AddRefusal>
-        ensures taken { OnOk result (refusal_of self.old spec ≡ None) }
+    /// need is taken here. A disk over the image has some of the slot's spare sectors, of which there are so many.
+    pub fn add(&mut self, alloc: A, spec: DeviceSpec, spare: u64) -> Result<u8, AddRefusal>
+        ensures taken { OnOk result (refusal_of self.old spare spec ≡ None) }
         ensures added { IfOk result (λ number. (number ≡ length self.old)
             × (self.new ≡ self.old ++ fresh_device spec ∷ [])) }
-        ensures refused { IfErr result (IsRefusedFor self.old spec) }
+        ensures refused { IfErr result (IsRefusedFor self.old spare spec) }
         ensures kept { OnErr result (self.new ≡ self.old) }
         ensures sound { (m : Memory) → AreSoundDevices m self.old → AreSoundDevices m self.new }
     {
-        let number = self.devices.len();
+        let number = self.len();
         if number >= MOST_DEVICES {
             return Err(AddRefusal::TooMany);
         }
@@ -56,6 +57,9 @@ impl<A: Allocator + Copy> DeviceList<A> {
         }
         if spec.has_bad_disk() {
             return Err(AddRefusal::BadDisk);
+        }
+        if self.has_bad_extent(&spec, spare) {
+            return Err(AddRefusal::BadExtent);
         }
         let Ok(device) = VirtioDevice::new(alloc, spec) else {
             return Err(AddRefusal::NoMemory);
@@ -123,9 +127,9 @@ impl<A: Allocator> DeviceList<A> {
         found.write(offset, width, value, mem)
     }
 
-    /// Serves a piece of a device's queue, within the budget. Of a device that isn't there nothing is served, and of a disk that the
-    /// host serves a look is never cut. In a pause the queue stands open, and its device's window is left alone. `room` is where
-    /// the chains stand, one after another.
+    /// Serves a piece of a device's queue, within the budget. Of a device that isn't there nothing is served, nor of a disk over the
+    /// image, which `serve_image` serves. Of a disk that the host serves a look is never cut. In a pause the queue stands open, and
+    /// its device's window is left alone. `room` is where the chains stand, one after another.
     pub fn serve<M: Allocator>(
         &mut self,
         device: u8,

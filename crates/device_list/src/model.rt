@@ -12,6 +12,7 @@ mod saved;
 use crate::card::NetworkCard;
 use crate::spec::DeviceSpec;
 use crate::terminal::Terminal;
+use block_device::BlockDevice;
 use chain::{Budget, Chain, Progress};
 use entropy_device::{EntropyDevice, REQUESTQ};
 use guest_memory::GuestMemory;
@@ -32,6 +33,8 @@ pub enum DeviceModel<A: Allocator = Global> {
     Block(HostedDisk<A>),
     /// A console, with pending input and the output that waits (5.3).
     Console(Terminal<A>),
+    /// A disk over some of the slot's spare sectors of the image, which its extent numbers (5.2).
+    Image(BlockDevice),
 }
 
 impl<A: Allocator + Copy> DeviceModel<A> {
@@ -60,6 +63,15 @@ impl<A: Allocator + Copy> DeviceModel<A> {
                 let terminal = Terminal::new(alloc, cols, rows)?;
                 Ok(DeviceModel::Console(terminal))
             }
+            DeviceSpec::Image {
+                extent,
+                read_only,
+                identity,
+            } => Ok(DeviceModel::Image(BlockDevice {
+                extent,
+                read_only,
+                identity,
+            })),
         }
     }
 }
@@ -72,7 +84,7 @@ impl<A: Allocator> DeviceModel<A> {
         match self {
             DeviceModel::Entropy(_) => DeviceKind::Entropy,
             DeviceModel::Network(_) => DeviceKind::Network,
-            DeviceModel::Block(_) => DeviceKind::Block,
+            DeviceModel::Block(_) | DeviceModel::Image(_) => DeviceKind::Block,
             DeviceModel::Console(_) => DeviceKind::Console,
         }
     }
@@ -86,6 +98,7 @@ impl<A: Allocator> DeviceModel<A> {
             DeviceModel::Network(_) => offered_features().union(Features::of_every_device()),
             DeviceModel::Block(disk) => disk.features(),
             DeviceModel::Console(terminal) => terminal.features(),
+            DeviceModel::Image(disk) => disk.features(),
         }
     }
 
@@ -98,6 +111,7 @@ impl<A: Allocator> DeviceModel<A> {
             DeviceModel::Network(card) => card.config(),
             DeviceModel::Block(disk) => disk.config(),
             DeviceModel::Console(terminal) => terminal.config(),
+            DeviceModel::Image(disk) => disk.config(),
         }
     }
 
@@ -106,7 +120,10 @@ impl<A: Allocator> DeviceModel<A> {
         ensures { result ≡ must_wait offset (state_of self.now) }
     {
         match self {
-            DeviceModel::Entropy(_) | DeviceModel::Network(_) | DeviceModel::Console(_) => false,
+            DeviceModel::Entropy(_)
+            | DeviceModel::Network(_)
+            | DeviceModel::Console(_)
+            | DeviceModel::Image(_) => false,
             DeviceModel::Block(disk) => disk.must_wait(offset),
         }
     }
@@ -117,13 +134,16 @@ impl<A: Allocator> DeviceModel<A> {
         ensures keeps { KeepsModel (state_of self.old) (state_of self.new) }
     {
         match self {
-            DeviceModel::Entropy(_) | DeviceModel::Network(_) | DeviceModel::Block(_) => (),
+            DeviceModel::Entropy(_)
+            | DeviceModel::Network(_)
+            | DeviceModel::Block(_)
+            | DeviceModel::Image(_) => (),
             DeviceModel::Console(terminal) => terminal.configure(offset, value),
         }
     }
 
-    /// Serves a piece of the queue of this number in its window, within the budget. A look of a disk is never cut. `room` is where
-    /// the chains stand, one after another.
+    /// Serves a piece of the queue of this number in its window, within the budget. A look of a disk is never cut, and of a disk over
+    /// the image nothing is served. `room` is where the chains stand, one after another.
     pub(crate) fn serve<M: Allocator>(
         &mut self,
         q: u16,
@@ -157,6 +177,7 @@ impl<A: Allocator> DeviceModel<A> {
             (DeviceModel::Console(terminal), _) => {
                 terminal.serve(q, mem, window, stage, budget, room)
             }
+            (DeviceModel::Image(_), _) => Progress::Done,
         }
     }
 }

@@ -3,7 +3,7 @@
 ghost use Rattle.std.specs.Prelude.{◌≡◌};
 ghost use Rattle.device_list.specs.Model.{has_bad_disk, has_bad_mtu};
 
-use block_device::MOST_IN_FLIGHT;
+use block_device::{Extent, MOST_IN_FLIGHT};
 use thiserror::Error;
 
 /// The most devices that a list may have.
@@ -45,6 +45,15 @@ pub enum DeviceSpec {
         /// Its rows.
         rows: u16,
     },
+    /// A disk over some of the slot's spare sectors of the image (5.2).
+    Image {
+        /// Which of them it has: the first one's place among the spare sectors, and how many.
+        extent: Extent,
+        /// Whether it refuses to write (VIRTIO_BLK_F_RO, 5.2.3).
+        read_only: bool,
+        /// What GET_ID gives (5.2.6). A text that is shorter has NULs behind it.
+        identity: [u8; 20],
+    },
 }
 
 impl DeviceSpec {
@@ -53,17 +62,23 @@ impl DeviceSpec {
         ensures { result ≡ has_bad_mtu self.now }
     {
         match self {
-            DeviceSpec::Entropy | DeviceSpec::Block { .. } | DeviceSpec::Console { .. } => false,
+            DeviceSpec::Entropy
+            | DeviceSpec::Block { .. }
+            | DeviceSpec::Console { .. }
+            | DeviceSpec::Image { .. } => false,
             DeviceSpec::Network { mtu, .. } => *mtu < LEAST_MTU,
         }
     }
 
-    /// Whether it has more sectors than a disk may have, or another depth than 1 to 64.
+    /// Whether it is a disk that the host serves and has more sectors than one may have, or another depth than 1 to 64.
     pub fn has_bad_disk(&self) -> bool
         ensures { result ≡ has_bad_disk self.now }
     {
         match self {
-            DeviceSpec::Entropy | DeviceSpec::Network { .. } | DeviceSpec::Console { .. } => false,
+            DeviceSpec::Entropy
+            | DeviceSpec::Network { .. }
+            | DeviceSpec::Console { .. }
+            | DeviceSpec::Image { .. } => false,
             DeviceSpec::Block { sectors, depth, .. } => {
                 *sectors >= TOO_MANY_SECTORS || *depth == 0 || usize::from(*depth) > MOST_IN_FLIGHT
             }
@@ -80,9 +95,12 @@ pub enum AddRefusal {
     /// The MTU of a network card is below 68.
     #[error("a network card has an MTU of 68 or more")]
     BadMtu,
-    /// A disk has 2^55 sectors or more, or another depth than 1 to 64.
+    /// A disk that the host serves has 2^55 sectors or more, or another depth than 1 to 64.
     #[error("a disk has fewer than 2^55 sectors, and 1 to 64 operations in flight")]
     BadDisk,
+    /// A disk over the image has no sectors, one that isn't a spare one, or one that another disk has.
+    #[error("a disk over the image has one or more spare sectors of its slot, which no other disk has")]
+    BadExtent,
     /// There was no memory for it.
     #[error("no memory for the device")]
     NoMemory,

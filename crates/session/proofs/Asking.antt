@@ -16,11 +16,13 @@ use Rattle.board.specs.declared.pause.Service.TheVariants.{Block, Receive, Trans
 use Rattle.board.specs.declared.pause.Turn.{Turn}
 use Rattle.board.specs.declared.pause.Turn.TheVariants as turn
 use Rattle.board.specs.declared.reply.Reply.TheVariants as reply
-use Rattle.block_device.specs.Flights.{taken_bits}
+use Rattle.block_device.specs.declared.device.BlockDevice.{BlockDevice}
+use Rattle.block_device.specs.Tags.{taken_bits}
 use Rattle.board.specs.Backing.{HostDisk, tags_in}
 use Rattle.board.specs.Image.{Health}
+use Rattle.board.specs.ImageDisks.{image_served}
 use Rattle.board.specs.Pausing as pausing
-use Rattle.board.specs.Pausing.{Begins, GoesOnBy, IsPiece, TurnsTo, asked, is_hosts, readied}
+use Rattle.board.specs.Pausing.{Begins, GoesOnBy, IsPiece, IsPieceAtDevice, TurnsTo, asked, is_hosts, readied}
 use Rattle.board.specs.Slot.{BoardSlot, SlotState, state_of}
 use Rattle.board.specs.World.{MayGive}
 use Rattle.board.proofs.Lists.{get_set}
@@ -47,7 +49,13 @@ piece_host Block stage budget came old before after new output (inr h) =
     ap (λ (s : SlotState). s.host) h.piece.is
 piece_host Receive stage budget came old before after new output h = ap (λ (s : SlotState). s.host) h.is
 piece_host Transmit stage budget came old before after new output h = ap (λ (s : SlotState). s.host) h.is
-piece_host (Further n q) stage budget came old before after new output h = ap (λ (s : SlotState). s.host) h.is
+piece_host (Further n q) stage budget came old before after new output h = at_device (image_served (Further n q) old) h
+  where
+    at_device : (found : Option BlockDevice) → IsPieceAtDevice found n q stage budget came old before after new output
+        → new.host ≡ old.host
+    at_device None h = ap (λ (s : SlotState). s.host) h.is
+    at_device (Some disk) (inl h) = ap (λ (s : SlotState). s.host) h.0.serves.is
+    at_device (Some disk) (inr h) = ap (λ (s : SlotState). s.host) h.0.serves.is
 
 comes_host : {A : Type 0} (pause : Pause) (stage : Stage) (budget : Budget) (old : SlotState)
     (before after : Health) (new : SlotState) (output : List ℕ) (t : Turn A)

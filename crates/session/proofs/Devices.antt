@@ -4,7 +4,8 @@ use Rattle.std.specs.Prelude.{⊤, ◌&&◌, if◌then◌else◌, is_none, unwra
 use Rattle.std.specs.List.{slice_get}
 use Rattle.std.specs.Option.{option_and_then, option_map, option_map_or}
 use Rattle.std.proofs.lemmas.Option.{same_Some}
-use Rattle.block_device.specs.Flights.{is_any}
+use Rattle.block_device.specs.declared.device.BlockDevice.{BlockDevice}
+use Rattle.block_device.specs.Tags.{is_any}
 use Rattle.network_device.specs.declared.refusal.FrameRefusal.TheVariants.{Full}
 use Rattle.device_list.specs.declared.refusal.ReceiveRefusal.{ReceiveRefusal}
 use Rattle.device_list.specs.declared.refusal.ReceiveRefusal.TheVariants.{Frame}
@@ -18,6 +19,7 @@ use Rattle.block_device.specs.declared.operation.HostEvent.{HostEvent}
 use Rattle.board.specs.declared.event.DeviceEvent.{DeviceEvent}
 use Rattle.board.specs.declared.event.DeviceEvent.TheVariants.{Plug, Read, Write, Supply, Receive, TakeSent, DropSent, SetLink, Resize, Host}
 use Rattle.board.specs.declared.event.EventKind.TheVariants.{Device}
+use Rattle.board.specs.declared.pause.Pause.{Pause}
 use Rattle.board.specs.declared.reply.Record.{Record}
 use Rattle.board.specs.declared.reply.Reply.{Reply}
 use Rattle.board.specs.declared.reply.Reply.TheVariants.{Value, Done, Bytes, Took, BadSlot, BadDevice, NoMemory}
@@ -26,9 +28,11 @@ use Rattle.board.specs.Backing.{HostDisk, tags_in}
 use Rattle.board.specs.Devices.{GivesByDevice, MayReplyDevice, TakesMemoryFor, can_plug, device_asks, device_reply, further_service, has_effect_at, received_reply, reply_at, told_reply, waits_for_disk, waits_there}
 use Rattle.board.specs.Hosting.{OwnGives}
 use Rattle.board.specs.Image.{Health}
+use Rattle.board.specs.ImageDisks.{GivesAtDevice, image_asked, image_served}
 use Rattle.board.specs.Outcome.{Outcome}
 use Rattle.board.specs.Slot.{SlotState}
 use Rattle.board.specs.World.{Answers, MayGive, MayGiveBy, MayGiveOverImage, MissingStep, SlotStep, World}
+use Rattle.board.proofs.AtDevice.{by_image, refused_by_image}
 use Rattle.board.proofs.Replies.{given_replies}
 use Rattle.session.specs.declared.response.Response.{Response}
 use Rattle.session.specs.declared.response.Response.TheVariants.{Answered, More, Busy, Idle}
@@ -41,6 +45,7 @@ use Rattle.session.specs.declared.refusal.Refusal.TheVariants as refusal
 use Rattle.session.specs.Devices.{sent_at, sent_count}
 use Rattle.session.specs.Pausing.{IsEventCall, IsWhole, taken_at}
 use Rattle.session.specs.Session.{IsStep, SessionState, output_of, world_of}
+use Rattle.session.proofs.ImageReplies.{image_done}
 use Rattle.session.proofs.Paused.{drop_takes, frame_takes, pauses, seen_sent}
 use Rattle.session.proofs.Suiting.{suits}
 
@@ -150,13 +155,29 @@ module _ {A : Type 0} (n : ℕ) (what : DeviceEvent A) (state : SlotState) where
         (is_any (tags_in state.host)) h.gives,
   )
 
+  -- a disk over the image that is asked for a service is answered as the device is
+  image_said : (disk : BlockDevice) (outcome : Outcome A) → image_asked n what state ≡ Some disk → outcome.reply ≡ Done
+      → outcome.reply ≡ unwrap_or (reply_at n what state) BadDevice
+  image_said disk outcome asked done =
+      done ∙ sym (ap (λ (o : Option (Reply A)). unwrap_or o BadDevice) (image_done n what state disk asked))
+
+  served_said : (before after : Health) (outcome : Outcome A)
+      → GivesAtDevice (image_asked n what state) n what state before after outcome
+      → outcome.reply ≡ unwrap_or (reply_at n what state) BadDevice
+  served_said before after outcome served =
+      by_image n what state before after outcome (image_asked n what state)
+      (λ none given. said_by (reply_at n what state) before after outcome given)
+      (λ disk asked s. image_said disk outcome asked (ap (λ (o : Outcome A). o.reply) s.is)) served
+
   -- where there is memory for the answer, it is that of the device, or that none takes such a thing
   said_over : (before after : Health) (outcome : Outcome A)
       → MayGiveOverImage state (Device n what) before after outcome → outcome.reply ≢ NoMemory
       → outcome.reply ≡ unwrap_or (reply_at n what state) BadDevice
-  said_over before after outcome (inl served) found =
-      said_by (reply_at n what state) before after outcome served.alike
-  said_over before after outcome (inr unmet) found = absurd (found (ap (λ (o : Outcome A). o.reply) unmet.unchanged))
+  said_over before after outcome (inl served) found = served_said before after outcome served.alike
+  said_over before after outcome (inr refused) found =
+      refused_by_image n what state before after outcome (image_asked n what state)
+      (λ none unmet. absurd (found (ap (λ (o : Outcome A). o.reply) unmet.unchanged)))
+      (λ disk asked failed. image_said disk outcome asked (ap (λ (o : Outcome A). o.reply) failed.service.is)) refused
 
   pub said : (before after : Health) (outcome : Outcome A) → MayGive state (Device n what) before after outcome
       → outcome.reply ≢ NoMemory → outcome.reply ≡ unwrap_or (reply_at n what state) BadDevice
@@ -176,13 +197,16 @@ module _ {A : Type 0} (n : ℕ) (what : DeviceEvent A) (state : SlotState) where
       → MayGiveOverImage state (Device n what) before after outcome
       → (outcome.reply ≡ BadDevice) ↔ (reply_at n what state ≡ None)
   bad_over before after outcome (inl served) =
-      bad_by (reply_at n what state) refl outcome.reply
-      (said_by (reply_at n what state) before after outcome served.alike)
-  bad_over before after outcome (inr unmet) =
-      let lacks : outcome.reply ≡ NoMemory = ap (λ (o : Outcome A). o.reply) unmet.unchanged in (
-        λ bad. absurd (cc (lacks, bad)),
+      bad_by (reply_at n what state) refl outcome.reply (served_said before after outcome served.alike)
+  bad_over before after outcome (inr refused) =
+      refused_by_image n what state before after outcome (image_asked n what state)
+      (λ _ unmet. (
+        λ bad. absurd (let lacks : outcome.reply ≡ NoMemory = ap (λ (o : Outcome A). o.reply) unmet.unchanged in
+            cc (lacks, bad)),
         λ none. absurd (taken_there n what state unmet.takes none),
-      )
+      ))
+      (λ disk asked failed. bad_by (reply_at n what state) refl outcome.reply
+      (image_said disk outcome asked (ap (λ (o : Outcome A). o.reply) failed.service.is))) refused
 
   -- it is answered that the device is bad exactly where none takes it
   pub bad_exact : (before after : Health) (outcome : Outcome A) → MayGive state (Device n what) before after outcome
@@ -198,15 +222,28 @@ write_waits : (A : Type 0) (offset width value : ℕ) (found : Option DeviceStat
 write_waits A offset width value None waits = absurd (cc (waits))
 write_waits A offset width value (Some d) waits = rw waits refl
 
+-- nor does one that waits ask a disk over the image
+waiting_never : (A : Type 0) (n offset width value : ℕ) (state : SlotState) (disk : BlockDevice)
+    → waits_there n offset state.devices ≡ true → image_asked {A = A} n (Write offset width value) state ≡ Some disk → ⊥
+waiting_never A n offset width value state disk waits asked =
+    let none : image_asked {A = A} n (Write offset width value) state ≡ None =
+    ap (λ (waits : Bool). option_and_then (λ (pause : Pause). image_served pause.service state) (if waits then None
+    else option_map (λ q. further_service n q None)
+    (option_and_then (notified_at offset width value) (slice_get state.devices n)))) waits in
+    cc (none, asked)
+
 pub waiting_gives : {A : Type 0} (n : ℕ) (what : DeviceEvent A) (state : SlotState) (before after : Health)
     (outcome : Outcome A) → waits_for_disk what n state.devices ≡ true
     → MayGiveOverImage state (Device n what) before after outcome → outcome.reply ≡ told.Busy
 waiting_gives {A} n (Write offset width value) state before after outcome waits (inl served) =
-    said_by n (Write offset width value) state (reply_at n (Write offset width value) state) before after outcome
-    served.alike
+    served_said n (Write offset width value) state before after outcome served.alike
     ∙ ap (λ (o : Option (Reply A)). unwrap_or o BadDevice)
     (write_waits A offset width value (slice_get state.devices n) waits)
-waiting_gives n (Write offset width value) state before after outcome waits (inr unmet) = absurd unmet.takes
+waiting_gives {A} n (Write offset width value) state before after outcome waits (inr refused) =
+    refused_by_image n (Write offset width value) state before after outcome
+    (image_asked {A = A} n (Write offset width value) state)
+    (λ none unmet. absurd unmet.takes)
+    (λ disk asked failed. absurd (waiting_never A n offset width value state disk waits asked)) refused
 waiting_gives n _ state before after outcome waits h = absurd (cc (waits))
 
 word_rests : (A : Type 0) (said : HostEvent) (disk : Option HostedDisk) (answer : Reply A)

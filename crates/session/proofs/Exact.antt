@@ -20,7 +20,8 @@ use Rattle.board.specs.declared.pause.Turn.TheVariants as turn
 use Rattle.board.specs.declared.reply.Reply.{Reply}
 use Rattle.board.specs.declared.reply.Reply.TheVariants as reply
 use Rattle.board.specs.declared.reply.Record.{Record}
-use Rattle.block_device.specs.Flights.{InFlight, is_any}
+use Rattle.block_device.specs.Flights.{InFlight}
+use Rattle.block_device.specs.Tags.{is_any}
 use Rattle.hosted_disk.specs.Told.{has_effect}
 use Rattle.device_list.specs.List.{disk_at}
 use Rattle.board.specs.Backing.{HostDisk, tags_in}

@@ -59,7 +59,7 @@ answers A slots disk h found addr bytes here inside =
             slots = map-set (state_of (bytes_of disk)) slots h new;
             disturbed = noted_set slots h found new (met_refusal {A = A} Done disk.failures disk.failures)
                 here (unmet A found.disturbed disk.failures);
-            outside = ap (λ es. outside_of es (bytes_of disk)) (extents_of-set slots h found new here refl);
+            outside = ap (λ es. outside_of es (bytes_of disk)) (extents_of-set slots h found new here (refl, refl));
           });
       replied = refl;
       appended = refl;

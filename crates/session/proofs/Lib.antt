@@ -1,3 +1,6 @@
+pub mod ImageDisks
+pub mod ImageReplies
+pub mod ImageWays
 pub mod Midway
 pub mod PacedAlone
 pub mod Access

@@ -2,13 +2,14 @@
 use Rattle.std.proofs.Common.{◌≡◌, false, ℕ, zero, suc, ◌+◌, ◌*◌, ◌/◌, ◌<◌, ◌≤◌, List, [], ◌∷◌, Option, Some, None, length, replicate, map, take, drop, refl, sym, ap, subst, ◌∙◌, arith}
 use Rattle.std.specs.Prelude.{◌-◌, ◌^◌, min, unwrap_or}
 use Rattle.std.specs.List.{slice_get}
-use Rattle.std.proofs.lemmas.List.{length-take, length-drop, length-replicate, get_or-replicate, take_all}
+use Rattle.std.proofs.lemmas.List.{length-take, length-drop, length-replicate, get_or-replicate}
 use Rattle.std.proofs.lemmas.Option.{get_or_from_slice_get, slice_get_within, same_Some}
 use Rattle.circular_buffer.proofs.Places.{slice_get-some}
 use Rattle.chain.specs.declared.budget.Budget.{Budget}
 use Rattle.device_list.specs.declared.spec.DeviceSpec.{DeviceSpec}
 use Rattle.board.specs.declared.pause.Pause.{Pause}
 use Rattle.sector_cache.specs.Sector.{extent_of}
+use Rattle.sector_cache.proofs.Sectors.{extent_of-extent_of}
 use Rattle.block_device.specs.declared.extent.Extent.{Extent}
 use Rattle.block_device.specs.Extent.{IsWithin}
 use Rattle.board.specs.declared.spec.Backing.{Backing}
@@ -17,33 +18,41 @@ use Rattle.board.specs.declared.spec.SlotSpec.{SlotSpec}
 use Rattle.board.specs.Backing.{HostDisk}
 use Rattle.board.specs.Fault.{IsAccepted, IsGoodSlot, place_by, room_by}
 use Rattle.board.specs.Pausing.{HasLimit}
-use Rattle.board.specs.Slot.{BoardSlot, SlotState, extent_by, host_by, opened, state_of}
+use Rattle.board.specs.Slot.{BoardSlot, SlotState, extent_by, host_by, opened, spare_by, state_of}
 use Rattle.output_queue.specs.Waiting.{Waiting, none_waiting}
 use Rattle.session.specs.declared.guest.GuestSpec.{GuestSpec}
 use Rattle.session.specs.Alone.{SeeAlike, at_front, new_session_alone, own_askings, part_of_image}
 use Rattle.session.specs.Course.{SessionStep, IsCourse, NeverPauses}
+use Rattle.session.specs.ImageDisks.{AreImageDisks, has_bad_image_disk}
 use Rattle.session.specs.Refusing.{AreDevices, AreOutlets, has_bad_device}
 use Rattle.session.specs.Session.{SessionState, devices_of, new_session, slots_of, with_fresh, world_of}
 use Rattle.session.proofs.Alone.{see_alike}
 use Rattle.session.proofs.PacedCourses.{never_pauses}
 
--- a guest's part of an image is all of the image that is its own
-front_of_part : (image : List ℕ) (start count : ℕ) → extent_of (extent_of image start count) 0 count
-    ≡ extent_of image start count
-front_of_part image start count =
-    take_all (512 * count) (take (512 * count) (drop (512 * start) image))
-    (omega (arith, length-take (512 * count) (drop (512 * start) image)))
+-- a guest's part of an image is all of the image that is its own, by who has its disk
+abbrev bytes_by : Backing → Extent → ℕ → List ℕ → List ℕ
+bytes_by backing extent spare image =
+    extent_of image (extent_by backing extent).start ((extent_by backing extent).count + spare_by backing spare)
 
--- by who has its disk
-abbrev bytes_by : Backing → Extent → List ℕ → List ℕ
-bytes_by backing extent image =
-    extent_of image (extent_by backing extent).start (extent_by backing extent).count
+-- the bytes of its disk
+own_by : (backing : Backing) (extent : Extent) (spare : ℕ) (image : List ℕ)
+    → extent_of (bytes_by backing extent spare image) (extent_by backing (record extent { start = 0 })).start
+    (extent_by backing (record extent { start = 0 })).count
+    ≡ extent_of image (extent_by backing extent).start (extent_by backing extent).count
+own_by Image extent spare image =
+    extent_of-extent_of image extent.start (extent.count + spare) 0 extent.count (omega arith)
+    ∙ ap (λ first. extent_of image first extent.count) (omega arith)
+own_by (Host depth) extent spare image = extent_of-extent_of image 0 0 0 0 (omega arith)
 
-front_by : (backing : Backing) (extent : Extent) (image : List ℕ)
-    → bytes_by backing (record extent { start = 0 }) (bytes_by backing extent image)
-    ≡ bytes_by backing extent image
-front_by Image extent image = front_of_part image extent.start extent.count
-front_by (Host depth) extent image = front_of_part image 0 0
+-- and those of its spare sectors
+spare_by_alone : (backing : Backing) (extent : Extent) (spare : ℕ) (image : List ℕ)
+    → extent_of (bytes_by backing extent spare image) ((extent_by backing (record extent { start = 0 })).start
+    + (extent_by backing (record extent { start = 0 })).count) (spare_by backing spare)
+    ≡ extent_of image ((extent_by backing extent).start + (extent_by backing extent).count) (spare_by backing spare)
+spare_by_alone Image extent spare image =
+    extent_of-extent_of image extent.start (extent.count + spare) (0 + extent.count) spare (omega arith)
+    ∙ ap (λ first. extent_of image first spare) (omega arith)
+spare_by_alone (Host depth) extent spare image = extent_of-extent_of image 0 0 0 0 (omega arith)
 
 host_of_count : (backing : Backing) (extent : Extent) → host_by backing (record extent { start = 0 })
     ≡ host_by backing extent
@@ -54,18 +63,20 @@ host_of_count (Host depth) extent = refl
 abbrev made : GuestSpec → BoardSlot
 made guest = with_fresh (devices_of guest) (opened guest.slot)
 
-seen_as : (spec : SlotSpec) (devices : List DeviceSpec) (bytes bytes' : List ℕ) (host host' : Option HostDisk)
-    → bytes ≡ bytes' → host ≡ host'
+seen_as : (spec : SlotSpec) (devices : List DeviceSpec) (image own own' more more' : List ℕ) (host host' : Option HostDisk)
+    → own ≡ own' → more ≡ more' → host ≡ host'
     → ◌≡◌ {A = SlotState}
-    (record (state_of bytes (with_fresh devices (opened spec))) { extent = bytes; host = host })
-    (record (state_of bytes (with_fresh devices (opened spec))) { extent = bytes'; host = host' })
-seen_as spec devices bytes bytes' host host' p q = rw (p, q) refl
+    (record (state_of image (with_fresh devices (opened spec))) { extent = own; spare_bytes = more; host = host })
+    (record (state_of image (with_fresh devices (opened spec))) { extent = own'; spare_bytes = more'; host = host' })
+seen_as spec devices image own own' more more' host host' p q r = rw (p, q, r) refl
 
 -- the guest's state is what it is alone
 same_state : (guest : GuestSpec) (image : List ℕ)
     → state_of (part_of_image guest image) (made (at_front guest)) ≡ state_of image (made guest)
 same_state guest image =
-    seen_as guest.slot (devices_of guest) _ _ _ _ (front_by guest.slot.backing guest.slot.extent image)
+    seen_as guest.slot (devices_of guest) image _ _ _ _ _ _
+    (own_by guest.slot.backing guest.slot.extent guest.slot.spare image)
+    (spare_by_alone guest.slot.backing guest.slot.extent guest.slot.spare image)
     (host_of_count guest.slot.backing guest.slot.extent)
 
 there_in : (guests : List GuestSpec) (g : ℕ) (guest : GuestSpec) (image : List ℕ) (budget : Budget)
@@ -144,12 +155,13 @@ has_sectors extent image fits =
     image)))
 
 -- a disk of the host's lies where it did
-fits_by : (backing : Backing) (extent : Extent) (image : List ℕ)
-    → IsWithin (room_by backing (length image / 512)) (place_by backing extent)
-    → IsWithin (room_by backing (length (bytes_by backing extent image) / 512))
-    (place_by backing (record extent { start = 0 }))
-fits_by Image extent image fits = has_sectors extent image fits
-fits_by (Host depth) extent image fits = fits
+fits_by : (backing : Backing) (extent : Extent) (spare : ℕ) (image : List ℕ)
+    → IsWithin (room_by backing (length image / 512)) (place_by backing extent spare)
+    → IsWithin (room_by backing (length (bytes_by backing extent spare image) / 512))
+    (place_by backing (record extent { start = 0 }) spare)
+fits_by Image extent spare image fits =
+    has_sectors (record { start = extent.start; count = extent.count + spare }) image fits
+fits_by (Host depth) extent spare image fits = fits
 
 -- a guest alone has its devices too
 device_at : (guests : List GuestSpec) (g : ℕ) (guest : GuestSpec) → slice_get guests g ≡ Some guest
@@ -165,6 +177,21 @@ only_device guest good (suc k) d few = absurd (omega (arith, few))
 pub devices_alone : (g : ℕ) (guests : List GuestSpec) (guest : GuestSpec) → slice_get guests g ≡ Some guest
     → AreDevices guests → AreDevices (at_front guest ∷ [])
 devices_alone g guests guest here all = only_device guest (device_at guests g guest here all)
+
+-- and its disks over the image
+disk_at : (guests : List GuestSpec) (g : ℕ) (guest : GuestSpec) → slice_get guests g ≡ Some guest
+    → AreImageDisks guests → has_bad_image_disk guest ≡ false
+disk_at guests g guest here all =
+    subst (λ (s : GuestSpec). has_bad_image_disk s ≡ false) (get_or_from_slice_get guests g guest guest here)
+    (all g guest (slice_get_within guests g guest here))
+
+only_disk : (guest : GuestSpec) → has_bad_image_disk guest ≡ false → AreImageDisks (at_front guest ∷ [])
+only_disk guest good zero d few = good
+only_disk guest good (suc k) d few = absurd (omega (arith, few))
+
+pub image_disks_alone : (g : ℕ) (guests : List GuestSpec) (guest : GuestSpec) → slice_get guests g ≡ Some guest
+    → AreImageDisks guests → AreImageDisks (at_front guest ∷ [])
+image_disks_alone g guests guest here all = only_disk guest (disk_at guests g guest here all)
 
 outlet_at : (guests : List GuestSpec) (g : ℕ) (guest : GuestSpec) → slice_get guests g ≡ Some guest
     → AreOutlets guests → guest.outlet ≤ 2 ^ 24
@@ -189,7 +216,7 @@ good_alone guest image earlier good =
     record {
       memory = good.memory;
       depth = good.depth;
-      within = fits_by guest.slot.backing guest.slot.extent image good.within;
+      within = fits_by guest.slot.backing guest.slot.extent guest.slot.spare image good.within;
       apart = λ k d fits. absurd (omega (arith, fits));
     }
 

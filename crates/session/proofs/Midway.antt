@@ -1,26 +1,26 @@
 -- A service that is paused: its pieces so far, as one part of the service of the guest that is alone.
-use Rattle.std.proofs.Common.{◌≡◌, ℕ, false, Option, Some, None, List, [], ◌++◌, refl, sym, ap, subst, ◌∙◌, inl, inr, append_assoc, append-nil, arith}
+use Rattle.std.proofs.Common.{◌≡◌, ℕ, zero, suc, false, Option, Some, None, List, [], ◌++◌, refl, sym, ap, subst, ◌∙◌, inl, inr, append_assoc, append-nil, arith}
+use Rattle.std.specs.List.{slice_get}
 use Rattle.std.proofs.lemmas.Option.{same_Some}
+use Rattle.guest_memory.specs.Memory.{Memory}
 use Rattle.chain.specs.declared.budget.Budget.{Budget}
 use Rattle.chain.specs.declared.budget.Progress.{Progress}
 use Rattle.chain.specs.declared.budget.Progress.TheVariants as progress
 use Rattle.chain.specs.Service.{Given}
 use Rattle.chain.proofs.Simulating.{DoesAs}
-use Rattle.mmio_window.specs.declared.stage.Stage.{Stage}
 use Rattle.mmio_window.specs.declared.stage.Stage.TheVariants.{First, Next}
+use Rattle.mmio_window.specs.declared.stage.Stage.{Stage}
 use Rattle.mmio_window.specs.Pieces.{ServesTo}
-use Rattle.mmio_window.specs.Window.{queue_at}
+use Rattle.mmio_window.specs.Window.{WindowState, queue_at}
 use Rattle.mmio_window.proofs.Underway.{OnItsWay, again, ended, first}
-use Rattle.sector_cache.specs.Disk.{Disk}
 use Rattle.block_device.specs.declared.device.BlockDevice.{BlockDevice}
 use Rattle.block_device.specs.Device.{exact_device}
-use Rattle.block_device.specs.Extent.{SameSectors}
-use Rattle.block_device.proofs.Guests.{exact_same}
 use Rattle.console_device.specs.Device.{receive, exact_transmit}
 use Rattle.console_device.specs.Input.{fitting}
-use Rattle.device_list.specs.Device.{ServesDevice}
-use Rattle.device_list.specs.List.{At}
-use Rattle.device_list.proofs.Pieces.{DevicesUnderWay, devices_again, devices_ended, devices_first}
+use Rattle.device_list.specs.Device.{DeviceState, ServesDevice}
+use Rattle.device_list.specs.List.{At, image_at}
+use Rattle.device_list.specs.Model.{Block as BlockModel, Console, Entropy, Image, ModelState, Network, image_of}
+use Rattle.device_list.proofs.Pieces.{DevicesUnderWay, ModelUnderWay, devices_again, devices_ended, devices_first}
 use Rattle.board.specs.declared.event.DeviceEvent.{DeviceEvent}
 use Rattle.board.specs.declared.event.EventKind.{EventKind}
 use Rattle.board.specs.declared.event.EventKind.TheVariants.{Write, Input, Device}
@@ -29,21 +29,26 @@ use Rattle.board.specs.declared.pause.Service.{Service}
 use Rattle.board.specs.declared.pause.Service.TheVariants.{Block, Receive, Transmit, Further}
 use Rattle.board.specs.declared.reply.Reply.{Reply}
 use Rattle.board.specs.declared.reply.Reply.TheVariants.{Done, Took}
-use Rattle.board.specs.Image.{Health, health_of, sectors_of, disk_with}
+use Rattle.board.specs.Image.{Health, sectors_of, disk_with}
+use Rattle.board.specs.Devices.{device_asks}
+use Rattle.board.specs.ImageDisks.{GivesAtDevice, device_readied, image_asked, image_device, image_disk_of, image_served}
 use Rattle.board.specs.Backing.{HostDisk}
 use Rattle.board.specs.Hosting.{has_part, is_block_task, notifies_block}
 use Rattle.board.specs.Machine.{GivesBy, GivesOverImage, IsNext, action_at, at_rest, task_at, with_input, with_write}
 use Rattle.board.specs.Outcome.{Outcome, replies}
-use Rattle.board.specs.Pausing.{IsBlockPiece, IsFurtherPiece, IsPiece, IsReceivePiece, IsTransmitPiece, asked, asked_by, asked_over_image, is_hosts, readied, reply_by, reply_of}
+use Rattle.board.specs.Pausing.{IsAnyImageDiskPiece, IsBlockPiece, IsFurtherPiece, IsImageDiskPiece, IsPiece, IsPieceAtDevice, IsReceivePiece, IsTransmitPiece, asked, asked_by, asked_over_image, is_hosts, readied, reply_by, reply_of}
 use Rattle.board.specs.Slot.{SlotState}
 use Rattle.board.specs.declared.task.Task.{Task}
 use Rattle.board.specs.declared.task.Task.TheVariants.{Nothing, Serve, PutOut}
 use Rattle.board.specs.Task.{Finishes, IsBlockService, IsReceiveService, IsTransmitService, device_of}
 use Rattle.board.proofs.Alike.{PieceAs, piece_as}
-use Rattle.board.proofs.Guests.{same_disk}
+use Rattle.board.proofs.AtDevice.{asked_hosted, image_found, served_other}
 use Rattle.board.proofs.OnHost.{is_beside, passes}
 use Rattle.board.proofs.FurtherPieces.{Asking, asking, gives_at}
+use Rattle.board.proofs.Lists.{get_set}
 use Rattle.board.proofs.Whole.{came, none_further}
+use Rattle.session.proofs.ImageReplies.{asked_readied, done_by}
+use Rattle.session.proofs.ImageWays.{ImageEnded, ImageWay, Rested, image_again, image_ended, image_first, image_there, rested, silent_both}
 use Rattle.session.proofs.Parts.{asks_freely, readied_host, serves_itself}
 
 -- ---- the block device, from its image at rest
@@ -59,38 +64,6 @@ pub record BlockWay (mid now : SlotState) (out : List ℕ) : Type 0 where
 same_device : (a b : SlotState) → sectors_of a.extent ≡ sectors_of b.extent → a.read_only ≡ b.read_only
     → a.identity ≡ b.identity → device_of a ≡ device_of b
 same_device a b x y z = rw (x, y, z) refl
-
--- a piece from one state of the image is one from another
-record Rested (device : BlockDevice) (stage : Stage) (budget : Budget) (progress : Progress)
-    (old new : SlotState) (start : Health) : Type 0 where
-  health : Health
-  served : ServesTo stage (exact_device device) budget 0 (queue_at 0 old.block) progress old.memory new.memory
-      old.block new.block (disk_with old.extent start) (disk_with new.extent health)
-
-rested : (device : BlockDevice) (stage : Stage) (budget : Budget) (progress : Progress) (old new : SlotState)
-    (before after start : Health)
-    → ServesTo stage (exact_device device) budget 0 (queue_at 0 old.block) progress old.memory new.memory
-    old.block new.block (disk_with old.extent before) (disk_with new.extent after)
-    → Rested device stage budget progress old new start
-rested device stage budget progress old new before after start h =
-    let p : PieceAs (exact_device device) (exact_device device) SameSectors (exact_same device) budget stage 0
-    (queue_at 0 old.block) progress old.memory new.memory old.block new.block (disk_with new.extent after)
-    (disk_with old.extent start) =
-    piece_as (exact_device device) (exact_device device) SameSectors (exact_same device) budget stage 0
-    (queue_at 0 old.block) progress old.memory new.memory old.block new.block
-    (disk_with old.extent before) (disk_with new.extent after) (disk_with old.extent start)
-    (record { contents = refl; sectors = refl }) h in
-    let is : p.state ≡ disk_with new.extent (health_of p.state) =
-    same_disk new.extent p.state p.alike.contents p.alike.sectors in
-    record {
-      health = health_of p.state;
-      served = subst (λ (d : Disk). ServesTo stage (exact_device device) budget 0 (queue_at 0 old.block)
-          progress old.memory new.memory old.block new.block (disk_with old.extent start) d) is p.served;
-    }
-
--- what two pieces put out that put out nothing
-silent_both : (out output : List ℕ) → out ≡ [] → output ≡ [] → out ++ output ≡ []
-silent_both out output x y = rw (x, y) refl
 
 abbrev with_block : SlotState → SlotState → SlotState
 with_block mid new = record mid { memory = new.memory; extent = new.extent; block = new.block }
@@ -176,8 +149,8 @@ module _ {budget : Budget} {mid new : SlotState} {before after : Health} {output
       before after new output
       → BlockWay mid new output
   block_first h =
-      let r : Rested (device_of mid) First budget progress.More mid new at_rest =
-      rested (device_of mid) First budget progress.More mid new before after at_rest h.served in
+      let r = rested (device_of mid) First budget progress.More (queue_at 0 mid.block) mid.memory new.memory mid.block
+      new.block mid.extent new.extent before after at_rest h.served in
       record {
         health = r.health;
         way = first (exact_device (device_of mid)) 0 budget r.served;
@@ -208,12 +181,14 @@ module _ {budget : Budget} {mid now new : SlotState} {before after : Health} {ou
   -- of the device as it began
   block_next : (progress : Progress) (w : BlockWay mid now out)
       → IsBlockPiece (exact_device (device_of now)) Next budget progress now before after new output
-      → Rested (device_of mid) Next budget progress now new w.health
+      → Rested (device_of mid) Next budget progress (queue_at 0 now.block) now.memory new.memory now.block new.block
+      now.extent new.extent w.health
   block_next progress w h =
       let same : device_of now ≡ device_of mid =
       same_device now mid w.size (ap (λ (s : SlotState). s.read_only) w.is)
       (ap (λ (s : SlotState). s.identity) w.is) in
-      rested (device_of mid) Next budget progress now new before after w.health
+      rested (device_of mid) Next budget progress (queue_at 0 now.block) now.memory new.memory now.block new.block
+      now.extent new.extent before after w.health
       (subst (λ (d : BlockDevice). ServesTo Next (exact_device d) budget 0 (queue_at 0 now.block) progress
       now.memory new.memory now.block new.block (disk_with now.extent before)
       (disk_with new.extent after)) same h.served)
@@ -308,11 +283,32 @@ module _ {budget : Budget} {mid now new : SlotState} {before after : Health} {ou
 
 -- ---- any service
 
+-- of a further device, by the disk over the image that serves it, if one does
+abbrev WayAt : Option BlockDevice → ℕ → ℕ → SlotState → SlotState → List ℕ → Type 0
+WayAt None n q mid now out = FurtherWay n q mid now out
+WayAt (Some disk) n q mid now out = ImageWay n disk mid now out
+
 abbrev pub Way : Service → SlotState → SlotState → List ℕ → Type 0
 Way Block mid now out = BlockWay mid now out
 Way Receive mid now out = ReceiveWay mid now out
 Way Transmit mid now out = TransmitWay mid now out
-Way (Further n q) mid now out = FurtherWay n q mid now out
+Way (Further n q) mid now out = WayAt (image_served (Further n q) mid) n q mid now out
+
+-- it is one in which no call failed
+exact_only : (n : ℕ) (disk : BlockDevice) (stage : Stage) (budget : Budget) (progress : Progress) (old : SlotState)
+    (before after : Health) (new : SlotState) (output : List ℕ) → after.failures ≡ before.failures
+    → IsAnyImageDiskPiece n disk stage budget progress old before after new output
+    → IsImageDiskPiece (exact_device (image_device disk)) n disk stage budget progress old before after new output
+exact_only n disk stage budget progress old before after new output stood (inl h) = h.0
+exact_only n disk stage budget progress old before after new output stood (inr h) =
+    let rose = h.1 in absurd (omega (arith, rose, stood))
+
+way_first_at : (found : Option BlockDevice) (n q : ℕ) (budget : Budget) (mid : SlotState) (before after : Health)
+    (new : SlotState) (output : List ℕ) → after.failures ≡ before.failures
+    → IsPieceAtDevice found n q First budget progress.More mid before after new output → WayAt found n q mid new output
+way_first_at None n q budget mid before after new output stood h = further_first n q h
+way_first_at (Some disk) n q budget mid before after new output stood h =
+    image_first (exact_only n disk First budget progress.More mid before after new output stood h)
 
 pub way_first : (service : Service) (budget : Budget) (mid : SlotState) (before after : Health)
     (new : SlotState) (output : List ℕ) → after.failures ≡ before.failures
@@ -326,7 +322,57 @@ way_first Receive budget mid before after new output stood h =
 way_first Transmit budget mid before after new output stood h =
     transmit_first h
 way_first (Further n q) budget mid before after new output stood h =
-    further_first n q h
+    way_first_at (image_served (Further n q) mid) n q budget mid before after new output stood h
+
+-- the disk over the image that serves goes on to serve
+
+under_way : (model model' : ModelState) (q : ℕ) (m m' : Memory) (w w' : WindowState)
+    → ModelUnderWay model q m m' w w' model' → image_of model' ≡ None
+under_way (Entropy pool) model' zero m m' w w' h = ap image_of h.is
+under_way (Entropy pool) model' (suc q) m m' w w' h = absurd h
+under_way (Network card) model' q m m' w w' h = ap image_of h.is
+under_way (BlockModel disk) model' q m m' w w' h = absurd h
+under_way (Console terminal) model' q m m' w w' h = ap image_of h.is
+under_way (Image disk) model' q m m' w w' h = absurd h
+
+same_served : (n q : ℕ) (now mid : SlotState) → now.host ≡ mid.host → now.spare ≡ mid.spare
+    → image_at n now.devices ≡ image_at n mid.devices → image_served (Further n q) now ≡ image_served (Further n q) mid
+same_served n zero now mid host spare disk =
+    ap (λ (h : Option HostDisk). image_disk_of h now.spare (image_at n now.devices)) host
+    ∙ ap (λ (s : ℕ). image_disk_of mid.host s (image_at n now.devices)) spare
+    ∙ ap (λ (d : Option BlockDevice). image_disk_of mid.host mid.spare d) disk
+same_served n (suc q) now mid host spare disk = refl
+
+still_served : (found : Option BlockDevice) (n q : ℕ) (mid now : SlotState) (out : List ℕ)
+    → image_served (Further n q) mid ≡ found → WayAt found n q mid now out → image_served (Further n q) now ≡ found
+still_served None n q mid now out is w =
+    let at = w.way in
+    let there : slice_get now.devices n ≡ Some at.after =
+    ap (λ (ds : List DeviceState). slice_get ds n) at.is ∙ get_set mid.devices n at.before at.after at.there in
+    served_other n q now (image_found n now.devices at.after there
+    ∙ under_way at.before.model at.after.model q mid.memory now.memory at.before.window at.after.window at.changes)
+still_served (Some disk) n q mid now out is w =
+    same_served n q now mid (ap (λ (s : SlotState). s.host) w.is) (ap (λ (s : SlotState). s.spare) w.is)
+    (image_found n now.devices (record w.device { window = w.window }) (image_there n disk mid now out w)
+    ∙ sym (image_found n mid.devices w.device w.there))
+    ∙ is
+
+-- so its next piece is of the same
+piece_of : (n q : ℕ) (budget : Budget) (progress : Progress) (mid now : SlotState) (out : List ℕ) (before after : Health)
+    (new : SlotState) (output : List ℕ) → WayAt (image_served (Further n q) mid) n q mid now out
+    → IsPiece (Further n q) Next budget progress now before after new output
+    → IsPieceAtDevice (image_served (Further n q) mid) n q Next budget progress now before after new output
+piece_of n q budget progress mid now out before after new output w h =
+    subst (λ (f : Option BlockDevice). IsPieceAtDevice f n q Next budget progress now before after new output)
+    (still_served (image_served (Further n q) mid) n q mid now out refl w) h
+
+way_again_at : (found : Option BlockDevice) (n q : ℕ) (budget : Budget) (mid now : SlotState) (out : List ℕ)
+    (before after : Health) (new : SlotState) (output : List ℕ) → after.failures ≡ before.failures
+    → WayAt found n q mid now out → IsPieceAtDevice found n q Next budget progress.More now before after new output
+    → WayAt found n q mid new (out ++ output)
+way_again_at None n q budget mid now out before after new output stood w h = further_again n q w h
+way_again_at (Some disk) n q budget mid now out before after new output stood w h =
+    image_again w (exact_only n disk Next budget progress.More now before after new output stood h)
 
 pub way_again : (service : Service) (budget : Budget) (mid now : SlotState) (out : List ℕ)
     (before after : Health) (new : SlotState) (output : List ℕ) → after.failures ≡ before.failures
@@ -342,16 +388,29 @@ way_again Receive budget mid now out before after new output stood w h =
 way_again Transmit budget mid now out before after new output stood w h =
     transmit_again w h
 way_again (Further n q) budget mid now out before after new output stood w h =
-    further_again n q w h
+    way_again_at (image_served (Further n q) mid) n q budget mid now out before after new output stood w
+    (piece_of n q budget progress.More mid now out before after new output w h)
 
 -- ---- at its end
+
+abbrev EndedAt : Type 0 → Option BlockDevice → ℕ → ℕ → SlotState → SlotState → List ℕ → Type 0
+EndedAt A None n q mid new out = FurtherEnded n q mid new out
+EndedAt A (Some disk) n q mid new out = ImageEnded A n disk mid new out
 
 abbrev Ended : Type 0 → Service → SlotState → SlotState → List ℕ → Type 0
 Ended A Block mid new out = BlockEnded A mid new out
 Ended A Receive mid new out = (reply : Reply A)
     → IsReceiveService mid reply at_rest at_rest (came new reply out)
 Ended A Transmit mid new out = IsTransmitService {A = A} mid at_rest at_rest (came new Done out)
-Ended A (Further n q) mid new out = FurtherEnded n q mid new out
+Ended A (Further n q) mid new out = EndedAt A (image_served (Further n q) mid) n q mid new out
+
+way_ended_at : (A : Type 0) (found : Option BlockDevice) (n q : ℕ) (budget : Budget) (mid now : SlotState)
+    (out : List ℕ) (before after : Health) (new : SlotState) (output : List ℕ) → after.failures ≡ before.failures
+    → WayAt found n q mid now out → IsPieceAtDevice found n q Next budget progress.Done now before after new output
+    → EndedAt A found n q mid new (out ++ output)
+way_ended_at A None n q budget mid now out before after new output stood w h = further_ended n q w h
+way_ended_at A (Some disk) n q budget mid now out before after new output stood w h =
+    image_ended A w (exact_only n disk Next budget progress.Done now before after new output stood h)
 
 way_ended : (A : Type 0) (service : Service) (budget : Budget) (mid now : SlotState) (out : List ℕ)
     (before after : Health) (new : SlotState) (output : List ℕ) → after.failures ≡ before.failures
@@ -367,7 +426,8 @@ way_ended A Receive budget mid now out before after new output stood w h =
 way_ended A Transmit budget mid now out before after new output stood w h =
     transmit_ended A w h
 way_ended A (Further n q) budget mid now out before after new output stood w h =
-    further_ended n q w h
+    way_ended_at A (image_served (Further n q) mid) n q budget mid now out before after new output stood w
+    (piece_of n q budget progress.Done mid now out before after new output w h)
 
 record Finished {A : Type 0} (task : Task) (mid : SlotState) (outcome : Outcome A) : Type 0 where
   after : Health
@@ -400,23 +460,52 @@ finished (PutOut byte) pause mid new out own asks = absurd (cc)
 record Gave {A : Type 0} (what : EventKind A) (state : SlotState) (outcome : Outcome A) : Type 0 where
   after : Health
   gives : GivesOverImage state what at_rest after outcome
-  rests : notifies_block what state ≡ false → after ≡ at_rest
+  rests : (own : HostDisk) → state.host ≡ Some own → notifies_block what state ≡ false → after ≡ at_rest
 
 -- of what is done to a further device
 further_gave : {A : Type 0} (n : ℕ) (what : DeviceEvent A) (state : SlotState) (pause : Pause)
-    (a : Asking n what state pause) (new : SlotState) (out : List ℕ)
+    (a : Asking n what state pause) (new : SlotState) (out : List ℕ) → image_asked n what state ≡ None
     → FurtherEnded n a.queue (readied (Device n what) state) new out
     → Gave (Device n what) state (came new (reply_by a.taken) out)
-further_gave {A} n what state pause a new out e =
+further_gave {A} n what state pause a new out none e =
     let is : came {A = A} new (reply_by a.taken) out
     ≡ replies (record state { memory = new.memory; devices = new.devices }) (reply_by a.taken) =
     same_came new (with_further (readied (Device n what) state) new) (reply_by a.taken) out [] e.is e.silent in
     record {
       after = at_rest;
       gives = subst (λ (o : Outcome A). GivesOverImage state (Device n what) at_rest at_rest o) (sym is)
-          (gives_at n what state pause a at_rest new.memory new.devices e.served);
-      rests = λ quiet. refl;
+          (gives_at n what state pause a at_rest new.memory new.devices none e.served);
+      rests = λ own hosted quiet. refl;
     }
+
+-- of a disk over the image
+image_gave : {A : Type 0} (n : ℕ) (what : DeviceEvent A) (state : SlotState) (pause : Pause)
+    (a : Asking n what state pause) (disk : BlockDevice) (new : SlotState) (out : List ℕ)
+    → image_asked n what state ≡ Some disk → ImageEnded A n disk (readied (Device n what) state) new out
+    → Gave (Device n what) state (came new (reply_by a.taken) out)
+image_gave {A} n what state pause a disk new out asked e = record {
+  after = e.health;
+  gives = subst (λ (f : Option BlockDevice). GivesAtDevice {A = A} f n what state at_rest e.health
+      (came new (reply_by a.taken) out)) (sym asked)
+      (rw (done_by n what state disk asked pause a) e.service);
+  rests = λ own hosted quiet. absurd (let none = asked_hosted n what state own hosted in cc (none, asked));
+}
+
+device_gave : {A : Type 0} (n : ℕ) (what : DeviceEvent A) (state : SlotState) (pause : Pause)
+    (a : Asking n what state pause) (new : SlotState) (out : List ℕ) → device_asks n what state ≡ Some pause
+    → Ended A (Further n a.queue) (readied (Device n what) state) new out
+    → Gave (Device n what) state (came new (reply_by a.taken) out)
+device_gave {A} n what state pause a new out asks e =
+    by_found (image_served (Further n a.queue) (device_readied n what state)) refl e
+  where
+    is : image_asked n what state ≡ image_served (Further n a.queue) (device_readied n what state)
+    is = asked_readied n what state pause a asks
+
+    by_found : (found : Option BlockDevice) → image_served (Further n a.queue) (device_readied n what state) ≡ found
+        → EndedAt A found n a.queue (device_readied n what state) new out
+        → Gave (Device n what) state (came new (reply_by a.taken) out)
+    by_found None none e = further_gave n what state pause a new out (is ∙ none) e
+    by_found (Some disk) some e = image_gave n what state pause a disk new out (is ∙ some) e
 
 gave : {A : Type 0} (what : EventKind A) (state : SlotState) (pause : Pause) (new : SlotState)
     (out : List ℕ) → asked_over_image what state ≡ Some pause
@@ -428,20 +517,20 @@ gave {A} (Write window offset width value) state pause new out asks e =
     finished (task_at window offset width value state) pause
     (with_write window offset width value state) new out
     (none_further window (action_at window offset width value state)) asks e in
-    record { after = f.after; gives = f.finishes; rests = f.rests }
+    record { after = f.after; gives = f.finishes; rests = λ own hosted quiet. f.rests quiet }
 gave {A} (Input bytes) state pause new out asks e =
     subst (λ (p : Pause). Ended A p.service (with_input bytes state) new out
     → Gave {A = A} (Input bytes) state (came new (reply_of p) out)) (same_Some _ pause asks)
     (λ e. record {
       after = at_rest;
       gives = e (Took (fitting state.pending bytes));
-      rests = λ quiet. refl;
+      rests = λ own hosted quiet. refl;
     }) e
 gave {A} (Device n what) state pause new out asks e =
     let a = asking n what state pause asks in
     subst (λ (p : Pause). Ended A p.service (readied (Device n what) state) new out
     → Gave (Device n what) state (came new (reply_of p) out)) (sym a.is)
-    (further_gave n what state pause a new out) e
+    (device_gave n what state pause a new out asks) e
 gave what state pause new out asks e = absurd (cc)
 
 -- and whoever has the guest's disk
@@ -456,7 +545,7 @@ next_by {A} None what state outcome is free g = record {
 next_by {A} (Some disk) what state outcome is free g =
     let beside = is_beside disk what state free in
     let given : GivesOverImage state what at_rest at_rest outcome =
-    subst (λ (h : Health). GivesOverImage state what at_rest h outcome) (g.rests beside.quiet) g.gives in
+    subst (λ (h : Health). GivesOverImage state what at_rest h outcome) (g.rests disk is beside.quiet) g.gives in
     record {
       after = at_rest;
       gives = subst (λ (k : Option HostDisk). GivesBy {A = A} k state what at_rest at_rest outcome) (sym is)
@@ -494,7 +583,11 @@ way_host : (service : Service) (mid now : SlotState) (out : List ℕ) → Way se
 way_host Block mid now out w = ap (λ (s : SlotState). s.host) w.is
 way_host Receive mid now out w = ap (λ (s : SlotState). s.host) w.is
 way_host Transmit mid now out w = ap (λ (s : SlotState). s.host) w.is
-way_host (Further n q) mid now out w = ap (λ (s : SlotState). s.host) w.is
+way_host (Further n q) mid now out w = at_device (image_served (Further n q) mid) w
+  where
+    at_device : (found : Option BlockDevice) → WayAt found n q mid now out → now.host ≡ mid.host
+    at_device None w = ap (λ (s : SlotState). s.host) w.is
+    at_device (Some disk) w = ap (λ (s : SlotState). s.host) w.is
 
 pub goes_by_piece : {A : Type 0} (what : EventKind A) (state : SlotState) (pause : Pause) (now : SlotState)
     (out : List ℕ) → asked what state ≡ Some pause → Way pause.service (readied what state) now out

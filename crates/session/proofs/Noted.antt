@@ -7,6 +7,7 @@ use Rattle.chain.specs.declared.budget.Progress.{Progress}
 use Rattle.chain.specs.declared.budget.Progress.TheVariants as progress
 use Rattle.mmio_window.specs.declared.stage.Stage.{Stage}
 use Rattle.mmio_window.specs.declared.stage.Stage.TheVariants.{First, Next}
+use Rattle.block_device.specs.declared.device.BlockDevice.{BlockDevice}
 use Rattle.board.specs.declared.event.EventKind.{EventKind}
 use Rattle.board.specs.declared.pause.Pause.{Pause}
 use Rattle.board.specs.declared.pause.Service.{Service}
@@ -15,8 +16,9 @@ use Rattle.board.specs.declared.pause.Turn.{Turn}
 use Rattle.board.specs.declared.pause.Turn.TheVariants as turn
 use Rattle.board.specs.declared.reply.Reply.TheVariants.{Done, NoMemory}
 use Rattle.board.specs.Image.{Health}
+use Rattle.board.specs.ImageDisks.{image_served}
 use Rattle.board.specs.Pausing as pausing
-use Rattle.board.specs.Pausing.{Begins, GoesOn, GoesOnBy, IsPiece, TurnsTo, asked, is_hosts, met_in, readied}
+use Rattle.board.specs.Pausing.{Begins, GoesOn, GoesOnBy, IsPiece, IsPieceAtDevice, TurnsTo, asked, is_hosts, met_in, readied}
 use Rattle.board.specs.Slot.{SlotState}
 use Rattle.board.specs.World.{MayGive, noted}
 use Rattle.board.proofs.Failures.{given_failures}
@@ -41,8 +43,14 @@ piece_rises Receive stage budget progress old before after new output h = let sa
     ap (λ (x : Health). x.failures) h.image in omega (arith, same)
 piece_rises Transmit stage budget progress old before after new output h = let same =
     ap (λ (x : Health). x.failures) h.image in omega (arith, same)
-piece_rises (Further n q) stage budget progress old before after new output h = let same =
-    ap (λ (x : Health). x.failures) h.image in omega (arith, same)
+piece_rises (Further n q) stage budget progress old before after new output h =
+    at_device (image_served (Further n q) old) h
+  where
+    at_device : (found : Option BlockDevice) → IsPieceAtDevice found n q stage budget progress old before after new output
+        → before.failures ≤ after.failures
+    at_device None h = let same = ap (λ (x : Health). x.failures) h.image in omega (arith, same)
+    at_device (Some disk) (inl h) = let same = h.1 in omega (arith, same)
+    at_device (Some disk) (inr h) = let rose = h.1 in omega (arith, rose)
 
 comes_rises : {A : Type 0} (pause : Pause) (stage : Stage) (budget : Budget) (old : SlotState)
     (before after : Health) (new : SlotState) (output : List ℕ) (t : Turn A)

@@ -9,7 +9,7 @@ use Rattle.board.specs.declared.event.SlotWindow.TheVariants as slot_window
 use Rattle.board.specs.declared.pause.Pause.{Pause}
 use Rattle.board.specs.declared.pause.Service.{Service}
 use Rattle.board.specs.declared.pause.Service.TheVariants.{Block, Receive, Transmit, Further}
-use Rattle.block_device.specs.Flights.{is_any}
+use Rattle.block_device.specs.Tags.{is_any}
 use Rattle.board.specs.Backing.{HostDisk, tags_in}
 use Rattle.board.specs.Hosting.{has_part, is_block_task, must_wait, notifies_block, told_in}
 use Rattle.board.specs.Image.{Health}

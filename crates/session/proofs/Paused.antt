@@ -1,5 +1,5 @@
 -- An event that pauses: the service that it asks for, and what the first piece of that leaves.
-use Rattle.std.proofs.Common.{◌≡◌, ℕ, zero, suc, Bool, true, false, List, [], ◌∷◌, length, map, Option, Some, None, refl, sym, ◌∙◌, ap, subst}
+use Rattle.std.proofs.Common.{◌≡◌, inl, inr, ℕ, zero, suc, Bool, true, false, List, [], ◌∷◌, length, map, Option, Some, None, refl, sym, ◌∙◌, ap, subst}
 use Rattle.std.specs.Prelude.{if◌then◌else◌, is_none, slice_set, IsSome}
 use Rattle.std.specs.List.{slice_get}
 use Rattle.std.specs.Option.{option_and_then, option_map, option_map_or}
@@ -9,29 +9,36 @@ use Rattle.chain.specs.declared.budget.Budget.{Budget}
 use Rattle.chain.specs.declared.budget.Progress.TheVariants as piece
 use Rattle.mmio_window.specs.declared.action.Action.{Action}
 use Rattle.mmio_window.specs.declared.action.Action.TheVariants.{ConfigWrite}
+use Rattle.mmio_window.specs.declared.queue.Queue.{Queue}
 use Rattle.mmio_window.specs.declared.stage.Stage.{Stage}
 use Rattle.mmio_window.specs.declared.stage.Stage.TheVariants.{First}
 use Rattle.mmio_window.specs.Window.{WindowState}
 use Rattle.mmio_window.specs.Writing.{action_of}
-use Rattle.block_device.specs.Flights.{taken_bits}
+use Rattle.sector_cache.specs.Disk.{Disk}
+use Rattle.block_device.specs.declared.device.BlockDevice.{BlockDevice}
+use Rattle.block_device.specs.Tags.{taken_bits}
 use Rattle.hosted_disk.specs.Disk.{HostedDisk}
 use Rattle.device_list.specs.Card.{receive_refusal}
 use Rattle.device_list.specs.Device.{DeviceServesTo, DeviceState, device_written, supply_taken, taking}
 use Rattle.device_list.specs.List.{At, DevicesServeTo, IsNoneServed, card_at, changed_at, disk_at, sent_by}
-use Rattle.device_list.specs.Model.{Block, Console, Entropy, ModelServesTo, ModelState, Network, configured, disk_of}
+use Rattle.device_list.specs.Model.{Block, Console, Entropy, Image, ModelServesTo, ModelState, Network, configured, disk_of, image_of}
 use Rattle.device_list.proofs.Pieces.{changed_there}
+use Rattle.board.specs.declared.event.DeviceEvent.{DeviceEvent}
 use Rattle.board.specs.declared.event.DeviceEvent.TheVariants.{Write, Supply, Receive, DropSent}
 use Rattle.board.specs.declared.event.EventKind.{EventKind}
 use Rattle.board.specs.declared.event.EventKind.TheVariants.{Device, Input}
 use Rattle.board.specs.declared.pause.Pause.{Pause}
+use Rattle.board.specs.declared.pause.Service.TheVariants.{Further}
 use Rattle.board.specs.declared.pause.Turn.{Turn}
 use Rattle.board.specs.declared.pause.Turn.TheVariants as turn
 use Rattle.board.specs.Devices.{further_service}
 use Rattle.board.specs.Image.{Health}
-use Rattle.board.specs.Pausing.{Begins, IsFurtherPiece, IsPiece, TurnsTo, asked, asked_over_image, input_service, readied}
+use Rattle.board.specs.ImageDisks.{ServesImageDisk, device_readied, image_asked, image_served}
+use Rattle.board.specs.Pausing.{Begins, IsPiece, IsPieceAtDevice, TurnsTo, asked, asked_over_image, input_service, readied}
 use Rattle.board.specs.Slot.{BoardSlot, SlotState, state_of}
 use Rattle.board.specs.World.{MayGive}
-use Rattle.board.proofs.FurtherPieces.{asking}
+use Rattle.board.proofs.AtDevice.{image_left}
+use Rattle.board.proofs.FurtherPieces.{Asking, asking}
 use Rattle.board.proofs.Lists.{get_set}
 use Rattle.session.specs.declared.response.Response.{Response}
 use Rattle.session.specs.declared.response.Response.TheVariants.{More}
@@ -39,6 +46,7 @@ use Rattle.session.specs.Disks.{DiskHasAsked, hosted_disk_at}
 use Rattle.session.specs.Pacing.{Handle, paused_at, response_to}
 use Rattle.session.specs.Pausing.{ComesTo, IsBegun, IsCall, taken_at}
 use Rattle.session.specs.Session.{SessionState, world_of}
+use Rattle.session.proofs.ImageReplies.{asked_readied}
 use Rattle.session.proofs.Parts.{asks_freely}
 use Rattle.session.specs.Devices.{sent_at, sent_count}
 
@@ -181,7 +189,7 @@ pub drop_some : (A : Type 0) (old new : SessionState) (slot n : ℕ) → Pauses 
     → IsSome (taken_at slot new)
 drop_some A old new slot n p = rw (drop_takes A old new slot n p) refl
 
--- ---- no disk pauses
+-- ---- no disk that the host serves pauses
 
 model_pauses : (stage : Stage) (budget : Budget) (model : ModelState) (q : ℕ) (m m' : Memory) (w w' : WindowState)
     (model' : ModelState) → ModelServesTo stage budget piece.More model q m m' w w' model'
@@ -191,6 +199,7 @@ model_pauses stage budget (Entropy pool) (suc q) m m' w w' model' h = absurd (cc
 model_pauses stage budget (Network card) q m m' w w' model' h = (refl, ap disk_of h.is)
 model_pauses stage budget (Block disk) q m m' w w' model' h = absurd (cc (h.0))
 model_pauses stage budget (Console terminal) q m m' w w' model' h = (refl, ap disk_of h.is)
+model_pauses stage budget (Image disk) q m m' w w' model' h = absurd (cc (h.0))
 
 device_pauses : (stage : Stage) (budget : Budget) (n q : ℕ) (m m' : Memory) (old new : List DeviceState)
     (d : DeviceState) → slice_get old n ≡ Some d → DevicesServeTo stage budget piece.More n q m m' old new
@@ -211,6 +220,7 @@ configured_disk offset value (Console terminal) = refl
 configured_disk offset value (Entropy pool) = refl
 configured_disk offset value (Network card) = refl
 configured_disk offset value (Block disk) = refl
+configured_disk offset value (Image disk) = refl
 
 taking_disk : (action : Action) (model : ModelState) → disk_of (taking action model) ≡ disk_of model
 taking_disk (ConfigWrite offset width value) model = configured_disk offset value model
@@ -234,6 +244,28 @@ written_pauses offset width value budget n q m m' old new (Some d) there h =
       pauses.1,
     )
 
+-- a disk over the image is none that the host serves, before its service and behind it
+no_host : (model : ModelState) (disk : BlockDevice) → image_of model ≡ Some disk → disk_of model ≡ None
+no_host (Entropy pool) disk is = refl
+no_host (Network card) disk is = refl
+no_host (Block own) disk is = absurd (cc (is))
+no_host (Console terminal) disk is = refl
+no_host (Image own) disk is = refl
+
+image_pauses : {A : Type 0} (n : ℕ) (what : DeviceEvent A) (state new : SlotState) (disk : BlockDevice)
+    (Serves : Option Queue → Memory → Memory → WindowState → WindowState → Disk → Disk → Type 0) (before after : Health)
+    → image_asked n what state ≡ Some disk → ServesImageDisk Serves n disk (device_readied n what state) new before after
+    → (disk_at n state.devices ≡ None) × (disk_at n new.devices ≡ None)
+image_pauses n what state new disk Serves before after asked s =
+    let left = image_left n what state new disk Serves before after asked s in
+    let none = no_host left.before.model disk left.is_disk in (
+      ap (λ (o : Option DeviceState). option_and_then (λ (e : DeviceState). disk_of e.model) o) left.there ∙ none,
+      ap (λ (devices : List DeviceState). disk_at n devices) left.is
+          ∙ ap (λ (o : Option DeviceState). option_and_then (λ (e : DeviceState). disk_of e.model) o)
+          (get_set state.devices n left.before left.after left.there)
+          ∙ ap disk_of left.model ∙ none,
+    )
+
 -- a slot's disk, as its guest sees the slot
 seen_disk : (slots : List BoardSlot) (image : List ℕ) (slot n : ℕ) → hosted_disk_at slot n slots
     ≡ option_and_then (λ (state : SlotState). disk_at n state.devices) (slice_get (map (state_of image) slots) slot)
@@ -241,17 +273,43 @@ seen_disk [] image slot n = refl
 seen_disk (s ∷ slots) image zero n = refl
 seen_disk (s ∷ slots) image (suc slot) n = seen_disk slots image slot n
 
+-- a write that pauses is of no disk that the host serves
+write_pauses : (A : Type 0) (budget : Budget) (n offset width value : ℕ) (state : SlotState) (pause : Pause)
+    (before later : Health) (after : SlotState) (output : List ℕ)
+    → asked_over_image {A = A} (Device n (Write offset width value)) state ≡ Some pause
+    → IsPiece pause.service First budget piece.More (readied {A = A} (Device n (Write offset width value)) state) before later
+    after output
+    → (disk_at n state.devices ≡ None) × (disk_at n after.devices ≡ None)
+write_pauses A budget n offset width value state pause before later after output asks served =
+    by_found (image_served (Further n a.queue) mid) refl
+    (subst (λ (p : Pause). IsPiece p.service First budget piece.More mid before later after output) a.is served)
+  where
+    what : DeviceEvent A
+    what = Write offset width value
+
+    mid : SlotState
+    mid = device_readied n what state
+
+    a : Asking n what state pause
+    a = asking n what state pause asks
+
+    by_found : (found : Option BlockDevice) → image_served (Further n a.queue) mid ≡ found
+        → IsPieceAtDevice found n a.queue First budget piece.More mid before later after output
+        → (disk_at n state.devices ≡ None) × (disk_at n after.devices ≡ None)
+    by_found None none h =
+        written_pauses offset width value budget n a.queue state.memory after.memory state.devices after.devices
+        (slice_get state.devices n) refl h.served
+    by_found (Some disk) some (inl h) =
+        image_pauses n what state after disk _ before later (asked_readied n what state pause a asks ∙ some) h.0.serves
+    by_found (Some disk) some (inr h) =
+        image_pauses n what state after disk _ before later (asked_readied n what state pause a asks ∙ some) h.0.serves
+
 -- So nothing is in flight of a disk of this number before and after it: there is none.
 pub write_asks : (A : Type 0) (old new : SessionState) (slot n offset width value : ℕ)
     → Pauses {A = A} old new slot (Device n (Write offset width value)) → DiskHasAsked slot n old new → ⊥
 write_asks A old new slot n offset width value p asks =
-    let a = asking {A = A} n (Write offset width value) p.state p.pause p.asks in
-    let mid = readied {A = A} (Device n (Write offset width value)) p.state in
-    let further : IsFurtherPiece n a.queue First old.budget piece.More mid p.before p.later p.after p.output =
-    subst (λ (pause : Pause). IsPiece pause.service First old.budget piece.More mid p.before p.later p.after p.output)
-    a.is p.piece in
-    let none = written_pauses offset width value old.budget n a.queue p.state.memory p.after.memory p.state.devices
-    p.after.devices (slice_get p.state.devices n) refl further.served in
+    let none = write_pauses A old.budget n offset width value p.state p.pause p.before p.later p.after p.output p.asks
+    p.piece in
     let disk = λ (o : Option SlotState). option_and_then (λ (state : SlotState). disk_at n state.devices) o in
     let was : hosted_disk_at slot n old.slots ≡ None =
     seen_disk old.slots old.image slot n ∙ ap disk p.there ∙ none.0 in

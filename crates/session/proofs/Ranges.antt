@@ -130,6 +130,6 @@ was_written A old slot addr found bytes here answers =
     let fits : slot < length old.slots = slice_get_within old.slots slot found here in
     slots_step old (with_memory slot found (stored found.memory addr bytes) old)
     (record { slot = slot; what = MemWrite addr bytes }) Done answers
-    (λ other differ. others_kept old.slots slot _ other differ) (extents_of-set old.slots slot found _ here refl) refl
+    (λ other differ. others_kept old.slots slot _ other differ) (extents_of-set old.slots slot found _ here (refl, refl)) refl
     (λ limit found after waiting left reply. tt) (λ is. absurd (cc)) (λ is. absurd (cc))
     (λ is. absurd (cc), λ past. absurd (omega arith))

@@ -9,8 +9,9 @@ use Rattle.board.specs.declared.spec.SlotSpec.{SlotSpec}
 use Rattle.board.specs.Fault.{Refuses}
 use Rattle.board.specs.Lent.{AreBytesOf}
 use Rattle.session.specs.declared.fault.SessionFault.{SessionFault}
-use Rattle.session.specs.declared.fault.SessionFault.TheVariants.{BadLoan, BadImage, BadOutlet, BadDevice, SpentBudget, Board, NoMemory}
+use Rattle.session.specs.declared.fault.SessionFault.TheVariants.{BadLoan, BadImage, BadOutlet, BadDevice, BadExtent, SpentBudget, Board, NoMemory}
 use Rattle.session.specs.declared.guest.GuestSpec.{GuestSpec}
+use Rattle.session.specs.ImageDisks.{AreImageDisks}
 use Rattle.session.specs.Refusing.{AreDevices, AreOutlets, IsJudged, IsLentRefusedFor, IsRefusedFor}
 use Rattle.session.specs.Session.{slots_of}
 use Rattle.session.proofs.Loans.{Run}
@@ -71,6 +72,11 @@ pub never_device : {T : Type 0} (r : Result T SessionFault) → IfErr r (λ why.
 never_device (Ok x) want is = cc
 never_device (Err e) want is = cc
 
+pub never_extent : {T : Type 0} (r : Result T SessionFault) → IfErr r (λ why. why ≡ NoMemory)
+    → IsErrOf r BadExtent → ⊥
+never_extent (Ok x) want is = cc
+never_extent (Err e) want is = cc
+
 -- what is judged of a slice is so of its list
 pub lent : (guests : List GuestSpec) {seen runs : List Run} → seen ≡ runs
     → AreBytesOf (slots_of guests) (map vec_items seen) → AreBytesOf (slots_of guests) (map vec_items runs)
@@ -92,6 +98,7 @@ module _ (guests : List GuestSpec) (image : List ℕ) (cache : ℕ) (budget : Bu
   only_image BadImage bad r = refl
   only_image BadOutlet bad r = absurd (bad r.0)
   only_image BadDevice bad r = absurd (bad r.0)
+  only_image BadExtent bad r = absurd (bad r.0)
   only_image SpentBudget bad r = absurd (bad r.0)
   only_image (Board fault) bad r = absurd (bad r.whole)
   only_image NoMemory bad r = absurd (bad r.0)
@@ -102,6 +109,7 @@ module _ (guests : List GuestSpec) (image : List ℕ) (cache : ℕ) (budget : Bu
   only_outlet BadImage bad r = absurd (r bad.0)
   only_outlet BadOutlet bad r = refl
   only_outlet BadDevice bad r = absurd (bad.1 r.1)
+  only_outlet BadExtent bad r = absurd (bad.1 r.1)
   only_outlet SpentBudget bad r = absurd (bad.1 r.1)
   only_outlet (Board fault) bad r = absurd (bad.1 r.outlets)
   only_outlet NoMemory bad r = absurd (bad.1 r.1)
@@ -112,20 +120,34 @@ module _ (guests : List GuestSpec) (image : List ℕ) (cache : ℕ) (budget : Bu
   only_device BadImage bad r = absurd (r bad.0)
   only_device BadOutlet bad r = absurd (r.1 bad.1)
   only_device BadDevice bad r = refl
+  only_device BadExtent bad r = absurd (bad.2 r.2)
   only_device SpentBudget bad r = absurd (bad.2 r.2)
   only_device (Board fault) bad r = absurd (bad.2 r.devices)
   only_device NoMemory bad r = absurd (bad.2 r.2)
 
+  pub only_extent : (why : SessionFault)
+      → (length image % 512 ≡ 0) × AreOutlets guests × AreDevices guests × ¬ AreImageDisks guests
+      → Refused why → why ≡ BadExtent
+  only_extent BadLoan bad r = absurd r
+  only_extent BadImage bad r = absurd (r bad.0)
+  only_extent BadOutlet bad r = absurd (r.1 bad.1)
+  only_extent BadDevice bad r = absurd (r.2 bad.2)
+  only_extent BadExtent bad r = refl
+  only_extent SpentBudget bad r = absurd (bad.3 r.3)
+  only_extent (Board fault) bad r = absurd (bad.3 r.image_disks)
+  only_extent NoMemory bad r = absurd (bad.3 r.3)
+
   pub only_spent : (why : SessionFault)
-      → (length image % 512 ≡ 0) × AreOutlets guests × AreDevices guests × IsSpent budget
+      → (length image % 512 ≡ 0) × AreOutlets guests × AreDevices guests × AreImageDisks guests × IsSpent budget
       → Refused why → why ≡ SpentBudget
   only_spent BadLoan bad r = absurd r
   only_spent BadImage bad r = absurd (r bad.0)
   only_spent BadOutlet bad r = absurd (r.1 bad.1)
   only_spent BadDevice bad r = absurd (r.2 bad.2)
+  only_spent BadExtent bad r = absurd (r.3 bad.3)
   only_spent SpentBudget bad r = refl
-  only_spent (Board fault) bad r = absurd (r.lasts bad.3)
-  only_spent NoMemory bad r = absurd (r.3 bad.3)
+  only_spent (Board fault) bad r = absurd (r.lasts bad.4)
+  only_spent NoMemory bad r = absurd (r.4 bad.4)
 
   module _ {T : Type 0} (r : Result T SessionFault) (why : SessionFault) (is : r ≡ Err why)
       (refused : Refused why) where
@@ -141,8 +163,12 @@ module _ (guests : List GuestSpec) (image : List ℕ) (cache : ℕ) (budget : Bu
     pub told_device : IsErrOf r BadDevice ↔ ((length image % 512 ≡ 0) × AreOutlets guests × ¬ AreDevices guests)
     told_device = (told BadDevice, λ bad. is ∙ ap Err (only_device why bad refused))
 
+    pub told_extent : IsErrOf r BadExtent
+        ↔ ((length image % 512 ≡ 0) × AreOutlets guests × AreDevices guests × ¬ AreImageDisks guests)
+    told_extent = (told BadExtent, λ bad. is ∙ ap Err (only_extent why bad refused))
+
     pub told_spent : IsErrOf r SpentBudget
-        ↔ ((length image % 512 ≡ 0) × AreOutlets guests × AreDevices guests × IsSpent budget)
+        ↔ ((length image % 512 ≡ 0) × AreOutlets guests × AreDevices guests × AreImageDisks guests × IsSpent budget)
     told_spent = (told SpentBudget, λ bad. is ∙ ap Err (only_spent why bad refused))
 
   module _ (bytes : List (List ℕ)) (are : AreBytesOf (slots_of guests) bytes) where
@@ -160,8 +186,15 @@ module _ (guests : List GuestSpec) (image : List ℕ) (cache : ℕ) (budget : Bu
     judged_first told BadImage bad is r = only_image told r.1 is
     judged_first told BadOutlet bad is r = only_outlet told r.1 is
     judged_first told BadDevice bad is r = only_device told r.1 is
+    judged_first told BadExtent bad is r = only_extent told r.1 is
     judged_first told SpentBudget bad is r = only_spent told r.1 is
-    judged_first told (Board fault) bad is r = absurd (bad (r.1.whole, r.1.outlets, r.1.devices, r.1.lasts))
+    judged_first told (Board fault) bad is r = absurd (bad (
+      r.1.whole,
+      r.1.outlets,
+      r.1.devices,
+      r.1.image_disks,
+      r.1.lasts,
+    ))
     judged_first told NoMemory bad is r = absurd (bad r.1)
 
     -- and behind it a board's
@@ -175,6 +208,7 @@ module _ (guests : List GuestSpec) (image : List ℕ) (cache : ℕ) (budget : Bu
     then_board r judged by BadImage other is = absurd (is.1 judged.0)
     then_board r judged by BadOutlet other is = absurd (is.1.1 judged.1)
     then_board r judged by BadDevice other is = absurd (is.1.2 judged.2)
-    then_board r judged by SpentBudget other is = absurd (judged.3 is.1.3)
+    then_board r judged by BadExtent other is = absurd (is.1.3 judged.3)
+    then_board r judged by SpentBudget other is = absurd (judged.4 is.1.4)
     then_board r judged by (Board fault) other is = by fault is.1.other is.1.refused
     then_board r judged by NoMemory other is = absurd (other refl)

@@ -23,7 +23,7 @@ use Rattle.board.specs.Extent.{outside_of}
 use Rattle.board.specs.Image.{Health, bytes_of}
 use Rattle.board.specs.Machine.{task_at, with_write}
 use Rattle.board.specs.Pausing.{Begins, Does, GoesOn, HasLimit, MayLackMemoryIn, TakesTurn}
-use Rattle.board.specs.Slot.{SlotState, BoardSlot, state_of}
+use Rattle.board.specs.Slot.{SlotState, BoardSlot, state_of, whole_extent}
 use Rattle.board.specs.declared.task.Task.{Task}
 use Rattle.board.specs.declared.task.Task.TheVariants.{Serve, PutOut}
 use Rattle.board.specs.World.{World, Answers, KeepsOthers, MayLackMemory, TakesMemory, extents_of}
@@ -64,8 +64,7 @@ same_size extents extents' bytes bytes' same =
 pub as_many : (slots slots' : List BoardSlot) → extents_of slots' ≡ extents_of slots
     → length slots' ≡ length slots
 as_many slots slots' same =
-    sym (length-map slots' (λ (s : BoardSlot). s.extent))
-    ∙ (ap length same ∙ length-map slots (λ (s : BoardSlot). s.extent))
+    sym (length-map slots' whole_extent) ∙ (ap length same ∙ length-map slots whole_extent)
 
 -- a session over a board with these slots and this image
 abbrev pub shown : List BoardSlot → Disk → List Waiting → List (Option Pause) → Budget → SessionState

@@ -112,7 +112,7 @@ module _ (s : SessionState) (slot : ℕ) (found : BoardSlot) (m : Memory)
         map-set (state_of s.image) s.slots slot other,
         map-set_same (λ (b : BoardSlot). b.disturbed) s.slots slot other found
             (ap (λ (b : BoardSlot). b.disturbed) (sym (get_or_from_slice_get s.slots slot found found here))),
-        extents_of-set s.slots slot found other here refl,
+        extents_of-set s.slots slot found other here (refl, refl),
       ) refl
 
   seen_there : slice_get (world_of s).slots slot ≡ Some (state_of s.image found)
@@ -190,8 +190,8 @@ module _ {A : Type 0} (old new : SessionState) (event : Event A) (found after : 
         ∙ sym (others_kept old.slots event.slot (record found { memory = m }) other apart);
     outputs = h.outputs;
     extents =
-        extents_of-set new.slots event.slot after (record after { memory = m }) there refl ∙ h.extents
-        ∙ sym (extents_of-set old.slots event.slot found (record found { memory = m }) here refl);
+        extents_of-set new.slots event.slot after (record after { memory = m }) there (refl, refl) ∙ h.extents
+        ∙ sym (extents_of-set old.slots event.slot found (record found { memory = m }) here (refl, refl));
     size = h.size;
     within = λ found' after' at_old at_new.
         within_over _ reply found' after' (output_of event.slot old) (output_of event.slot new) at_old at_new

@@ -4,7 +4,8 @@ use Rattle.std.specs.List.{slice_get}
 use Rattle.chain.specs.declared.budget.Budget.{Budget}
 use Rattle.sector_cache.specs.Sector.{extent_of}
 use Rattle.board.specs.declared.event.EventKind.{EventKind}
-use Rattle.board.specs.Slot.{SlotState, extent_by}
+use Rattle.board.specs.Fault.{share}
+use Rattle.board.specs.Slot.{SlotState}
 use Rattle.board.specs.Steps.{IsAnsweredBy, own_steps}
 use Rattle.board.specs.Within.{Seat, IsNextWithin}
 use Rattle.session.specs.declared.guest.GuestSpec.{GuestSpec}
@@ -72,13 +73,11 @@ pub record SeeAlike {A : Type 0} (g : ℕ) (steps : List (SessionStep A)) (new :
   pub waiting : output_of g new ≡ output_of h last
   pub state : slice_get (world_of new).slots g ≡ slice_get (world_of last).slots h
 
--- the guest's part of an image: the bytes of its extent, and none where the host serves its disk
+-- the guest's part of an image: the bytes of its slot's sectors, the spare ones too, and none where the host serves its disk
 abbrev pub part_of_image : GuestSpec → List ℕ → List ℕ
-part_of_image guest image =
-    extent_of image (extent_by guest.slot.backing guest.slot.extent).start
-    (extent_by guest.slot.backing guest.slot.extent).count
+part_of_image guest image = extent_of image (share guest.slot).start (share guest.slot).count
 
--- the guest with its disk at the image's front
+-- the guest with its sectors at the image's front
 abbrev pub at_front : GuestSpec → GuestSpec
 at_front guest = record guest {
   slot = record guest.slot { extent = record guest.slot.extent { start = 0 } };

@@ -3,7 +3,7 @@ use Rattle.std.specs.Prelude.{◌≡◌, ℕ, Option, None, List, length, unwrap
 use Rattle.std.specs.List.{slice_get}
 use Rattle.std.specs.Option.{option_and_then, option_map, option_map_or}
 use Rattle.mmio_window.specs.Interrupts.{interrupt_bits}
-use Rattle.block_device.specs.Flights.{taken_bits}
+use Rattle.block_device.specs.Tags.{taken_bits}
 use Rattle.device_list.specs.Device.{DeviceState}
 use Rattle.device_list.specs.List.{disk_at, is_starved_at, sent_by}
 use Rattle.board.specs.declared.event.DeviceEvent.{DeviceEvent}

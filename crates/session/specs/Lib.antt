@@ -5,6 +5,7 @@ pub mod Line
 pub mod Session
 pub mod Pausing
 pub mod Answering
+pub mod ImageDisks
 pub mod Refusing
 pub mod Steps
 pub mod Course

@@ -3,7 +3,8 @@ use Rattle.std.specs.Prelude.{◌≡◌, ◌≢◌, ◌⊎◌, ℕ, ◌+◌, ◌
 use Rattle.std.specs.List.{slice_get}
 use Rattle.std.specs.Option.{option_and_then, option_map}
 use Rattle.block_device.specs.declared.operation.Operation.{Operation}
-use Rattle.block_device.specs.Flights.{InFlight, is_any, operation_in, taken_bits}
+use Rattle.block_device.specs.Flights.{InFlight}
+use Rattle.block_device.specs.Tags.{is_any, operation_in, taken_bits}
 use Rattle.board.specs.declared.event.EventKind.{EventKind}
 use Rattle.block_device.specs.declared.operation.HostEvent.{HostEvent}
 use Rattle.block_device.specs.declared.operation.HostEvent.TheVariants.{Complete, Drop, Hold, Release}

@@ -18,9 +18,13 @@ pub enum SessionFault {
     /// More output of a guest may wait than 2^24 bytes.
     #[error("an outlet keeps 16777216 bytes at most")]
     BadOutlet,
-    /// A network card that a guest is to have has an MTU below 68, or a disk 2^55 sectors or more, or another depth than 1 to 64.
-    #[error("a network card has an MTU of 68 or more, and a disk fewer than 2^55 sectors and a depth of 1 to 64")]
+    /// A network card that a guest is to have has an MTU below 68, or a disk that the host serves 2^55 sectors or more, or another
+    /// depth than 1 to 64.
+    #[error("a network card has an MTU of 68 or more, and a disk of the host's fewer than 2^55 sectors and a depth of 1 to 64")]
     BadDevice,
+    /// A disk over the image that a guest is to have has no sectors, one that isn't a spare one of its slot, or one that another has.
+    #[error("a disk over the image has one or more spare sectors of its slot, which no other disk has")]
+    BadExtent,
     /// The budget has no chain or no byte, so a service that pauses would never go on.
     #[error("a budget needs one chain and one byte at least")]
     SpentBudget,

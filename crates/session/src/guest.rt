@@ -41,8 +41,8 @@ pub(crate) fn are_devices(guests: &[GuestSpec]) -> bool
     guests.iter().all(|guest| !has_bad_device(guest))
 }
 
-/// Whether a guest is to have a further device that no slot takes: a network card whose MTU is too low, or a disk that is too
-/// large or has no depth from 1 to 64.
+/// Whether a guest is to have a further device that no slot takes: a network card whose MTU is too low, or a disk that the host
+/// serves and that is too large or has no depth from 1 to 64.
 pub fn has_bad_device(guest: &GuestSpec) -> bool
     ensures { result ≡ has_bad_device guest.now }
 {

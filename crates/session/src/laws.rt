@@ -23,6 +23,7 @@ ghost use Rattle.session.specs.Alone.{IsSeatCourse, IsSeatedAlone, OwnCall, SeeA
 ghost use Rattle.session.specs.Operations.{flight_at};
 ghost use Rattle.session.specs.Course.{SessionStep, HadRoom, IsCalled, IsCourse, NeverPauses, RunsAlone, paced_world_of};
 ghost use Rattle.session.specs.Pausing.{IsCall, IsEventCall};
+ghost use Rattle.session.specs.ImageDisks.{AreImageDisks};
 ghost use Rattle.session.specs.Refusing.{AreDevices, AreOutlets};
 ghost use Rattle.session.specs.Steps.{Answer, Asking};
 ghost use Rattle.session.specs.Session.{IsKept, IsStep, SessionState, limit_of, new_session, output_of, slots_of, with_memory, with_slot_bytes, world_of};
@@ -56,6 +57,8 @@ pub fn each_guest_is_alone<A: Allocator>()
         IsAccepted (length (part_of_image guest image) / 512) (slots_of (at_front guest ∷ [])) cache }
     ensures devices { (g : ℕ) (guests : List GuestSpec) (guest : GuestSpec) → slice_get guests g ≡ Some guest →
         AreDevices guests → AreDevices (at_front guest ∷ []) }
+    ensures image_disks { (g : ℕ) (guests : List GuestSpec) (guest : GuestSpec) → slice_get guests g ≡ Some guest →
+        AreImageDisks guests → AreImageDisks (at_front guest ∷ []) }
 
     // and from whatever state on: a guest of one session and one of another, as the same slot with the same output
     ensures alike { (g h : ℕ) (old new other last : SessionState) (steps more : List (SessionStep A)) (state : SlotState) →

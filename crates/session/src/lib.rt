@@ -8,7 +8,8 @@
 //! on when it is told to. `turn_kind` says what a slot is asked to do in a call, `response` what comes of it, and `progress`
 //! what the caller is told.
 //!
-//! `guest` is what a session is made of, and `plugging` gives its board the guests' further devices. `fault` says why there is no
+//! `guest` is what a session is made of, `image_disks` says which sectors the further disks over the image may have, and
+//! `plugging` gives its board the guests' further devices. `fault` says why there is no
 //! session, `refusal` why a call was refused, `handed` what became of bytes that were handed in, `laws` what holds of every
 //! session, and `lines` what holds of every line of calls.
 #![tactic(auto)]
@@ -16,6 +17,7 @@
 mod fault;
 mod guest;
 mod handed;
+mod image_disks;
 mod laws;
 mod lines;
 mod plugging;
@@ -37,6 +39,7 @@ pub use chain::Segment;
 pub use fault::SessionFault;
 pub use guest::{GuestSpec, has_bad_device};
 pub use handed::Handed;
+pub use image_disks::has_bad_image_disk;
 pub use laws::{
     a_flight_outlasts_own_events, a_guest_with_room_runs_alone, a_write_in_place_is_an_event,
     each_guest_is_alone, the_outlet_decides, what_touches_no_memory_needs_none,

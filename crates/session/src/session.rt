@@ -21,6 +21,7 @@ ghost use Rattle.session.specs.Pacing.{call_of, paused_at};
 ghost use Rattle.session.specs.Answering.{SuitsCall, SuitsTurn};
 ghost use Rattle.session.specs.Pausing.{IsCall, IsEventCall, IsWholeCall};
 ghost use Rattle.session.specs.Session.{BeginsInPlace, IsIdle, new_session, new_session_over, plugged, slots_of, waits_at};
+ghost use Rattle.session.specs.ImageDisks.{AreImageDisks};
 ghost use Rattle.session.specs.Refusing.{AreDevices, AreOutlets, IsBoardFault, IsJudged, IsLentRefusedFor, IsRefusedFor};
 
 mod console;
@@ -36,6 +37,7 @@ use crate::fault::{SessionFault, why_not};
 use crate::guest::{
     GuestSpec, are_bytes_of, are_devices, are_outlets, none_paused, outputs, slots,
 };
+use crate::image_disks::are_image_disks;
 use crate::plugging::plug_devices;
 use crate::response::{Response, Turned, note};
 use crate::told::Waits;
@@ -92,6 +94,7 @@ impl<A: Allocator + Copy> Session<A> {
         ensures accepted { OnOk result (IsAccepted (length image.now / 512) (slots_of guests.now) cache) }
         ensures outlets { OnOk result (AreOutlets guests.now) }
         ensures devices { OnOk result (AreDevices guests.now) }
+        ensures image_disks { OnOk result (AreImageDisks guests.now) }
         ensures lasts { OnOk result (¬ IsSpent budget) }
         ensures fault { IfErr result (IsRefusedFor guests.now image.now cache budget) }
 
@@ -101,8 +104,11 @@ impl<A: Allocator + Copy> Session<A> {
             ((length image.now % 512 ≡ 0) × ¬ AreOutlets guests.now) }
         ensures bad_device { IsErrOf result SessionFault.BadDevice ↔
             ((length image.now % 512 ≡ 0) × AreOutlets guests.now × ¬ AreDevices guests.now) }
+        ensures bad_extent { IsErrOf result SessionFault.BadExtent ↔
+            ((length image.now % 512 ≡ 0) × AreOutlets guests.now × AreDevices guests.now × ¬ AreImageDisks guests.now) }
         ensures spent { IsErrOf result SessionFault.SpentBudget ↔
-            ((length image.now % 512 ≡ 0) × AreOutlets guests.now × AreDevices guests.now × IsSpent budget) }
+            ((length image.now % 512 ≡ 0) × AreOutlets guests.now × AreDevices guests.now × AreImageDisks guests.now
+            × IsSpent budget) }
         ensures bad_board { (fault : BoardFault) → IsBoardFault guests.now image.now cache budget fault →
             IsErrAnd result (λ why. (why ≡ SessionFault.Board fault) ⊎ (why ≡ SessionFault.NoMemory)) }
     {
@@ -127,6 +133,7 @@ impl<A: Allocator + Copy> Session<A> {
         ensures accepted { OnOk result (IsAccepted (length image.now / 512) (slots_of guests.now) cache) }
         ensures outlets { OnOk result (AreOutlets guests.now) }
         ensures devices { OnOk result (AreDevices guests.now) }
+        ensures image_disks { OnOk result (AreImageDisks guests.now) }
         ensures lasts { OnOk result (¬ IsSpent budget) }
         ensures fault { IfErr result (IsLentRefusedFor guests.now (map vec_items bytes.items) image.now cache budget) }
 
@@ -299,6 +306,9 @@ fn judge(guests: &[GuestSpec], image: &[u8], budget: Budget) -> Result<(), Sessi
     }
     if !are_devices(guests) {
         return Err(SessionFault::BadDevice);
+    }
+    if !are_image_disks(guests) {
+        return Err(SessionFault::BadExtent);
     }
     if budget.is_spent() {
         return Err(SessionFault::SpentBudget);

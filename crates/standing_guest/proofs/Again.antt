@@ -13,7 +13,7 @@ use Rattle.mmio_window.specs.Writing.{action_of}
 use Rattle.shared_memory.specs.Sightings.{Sightings, memory}
 use Rattle.console_device.specs.Console.{Console}
 use Rattle.racing_hosted_disk.specs.declared.look.LookLimits.{LookLimits}
-use Rattle.racing_hosted_disk.specs.Tags.{is_any}
+use Rattle.block_device.specs.Tags.{is_any}
 use Rattle.racing_guest.specs.declared.reply.GuestQueue.{GuestQueue}
 use Rattle.racing_guest.specs.declared.reply.GuestQueue.TheVariants as queues
 use Rattle.racing_guest.specs.declared.reply.Reply.TheVariants as answer

@@ -28,7 +28,7 @@ use Rattle.racing_disk.specs.Telling.{IsLeft}
 use Rattle.racing_window.specs.Queue.{racing_queue}
 use Rattle.racing_window.proofs.Rings.{IsQueueSound, queue_stands_still}
 use Rattle.racing_hosted_disk.specs.Looking.{AsksIn}
-use Rattle.racing_hosted_disk.specs.Tags.{InFlight, free_tag}
+use Rattle.block_device.specs.Tags.{InFlight, free_tag}
 use Rattle.racing_hosted_disk.proofs.Standing.{told_of}
 use Rattle.standing_guest.specs.Slot.{in_flight}
 use Rattle.standing_guest.proofs.AnyDisk.{course_over}

@@ -12,7 +12,7 @@ use Rattle.mmio_window.specs.Window.{WindowState, queue_at}
 use Rattle.mmio_window.specs.Writing.{action_of, written}
 use Rattle.shared_memory.specs.Sightings.{Sightings, memory}
 use Rattle.block_device.specs.declared.device.BlockDevice.{BlockDevice}
-use Rattle.block_device.specs.Flights as still
+use Rattle.block_device.specs.Tags.{is_any}
 use Rattle.block_device.specs.Flights.{HostedQueue}
 use Rattle.block_device.specs.Hosting.{wants_stable}
 use Rattle.hosted_disk.specs.Disk as hosted
@@ -81,7 +81,7 @@ module _ (A : Type 0) where
 
   pub write_waits_too : (m : Memory) (guest : RacingGuest) (offset : ℕ) (waits : Bool)
       → racing.must_wait offset guest.block ≡ waits
-      → (still.is_any (tags_of guest.block.disk) && may_stop_queues offset) ≡ waits
+      → (is_any (tags_of guest.block.disk) && may_stop_queues offset) ≡ waits
   write_waits_too m guest offset waits is =
       ap (λ (b : Bool). b && may_stop_queues offset) (same_any guest.block.disk.tags) ∙ is
 

@@ -14,7 +14,7 @@ use Rattle.console_device.specs.Config.{emergency_write}
 use Rattle.console_device.specs.Console.{Console}
 use Rattle.console_device.specs.Device.{exact_transmit, receive, transmit_within, transmitted}
 use Rattle.console_device.specs.Input.{fitting}
-use Rattle.block_device.specs.Flights.{is_any}
+use Rattle.block_device.specs.Tags.{is_any}
 use Rattle.shared_memory.specs.Sightings.{Sightings, memory}
 use Rattle.racing_service.specs.declared.service.Limits.{Limits}
 use Rattle.racing_guest.specs.Console.{ActsOnConsole, PutsOutIf, RacingConsole, Receives, Transmits, with_console_written, with_size, with_typed}

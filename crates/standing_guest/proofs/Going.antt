@@ -28,7 +28,7 @@ use Rattle.racing_hosted_disk.specs.declared.look.LookEnding.{LookEnding}
 use Rattle.racing_hosted_disk.specs.declared.look.LookEnding.TheVariants as look
 use Rattle.racing_hosted_disk.specs.declared.look.LookLimits.{LookLimits}
 use Rattle.racing_hosted_disk.specs.Looking.{EndsLooks, Place, place_at, progress_of}
-use Rattle.racing_hosted_disk.specs.Tags.{InFlight, free_tag}
+use Rattle.block_device.specs.Tags.{InFlight, free_tag}
 use Rattle.racing_guest.specs.Block.{fault_met, showing}
 use Rattle.standing_guest.specs.Rest.{IsAtRest, OfferStands, WindowRests, WindowStands}
 use Rattle.standing_guest.proofs.AnyDisk.{end_over, service_over}

@@ -30,7 +30,7 @@ use Rattle.racing_window.proofs.Sizes.{sound_queue}
 use Rattle.racing_hosted_disk.specs.declared.look.LookEnding.{LookEnding}
 use Rattle.racing_hosted_disk.specs.Laws.{LandsAsOne}
 use Rattle.racing_hosted_disk.specs.Looking.{Place, place_at}
-use Rattle.racing_hosted_disk.specs.Tags.{InFlight}
+use Rattle.block_device.specs.Tags.{InFlight}
 use Rattle.racing_hosted_disk.specs.Told.{Lands}
 use Rattle.racing_hosted_disk.proofs.Standing.{lands_as_one}
 use Rattle.racing_guest.specs.Block.{fault_met, showing}

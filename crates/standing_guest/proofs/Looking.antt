@@ -14,7 +14,6 @@ use Rattle.mmio_window.specs.Window.{WindowState, queue_at}
 use Rattle.shared_memory.specs.Sightings.{Sightings, memory}
 use Rattle.block_device.specs.declared.device.BlockDevice.{BlockDevice}
 use Rattle.block_device.specs.Extent.{extent_disk}
-use Rattle.block_device.specs.Flights as still
 use Rattle.block_device.specs.Flights.{HostedQueue, LookEnds}
 use Rattle.block_device.specs.Hosting.{hosted_device, wants_stable}
 use Rattle.hosted_disk.specs.Disk as hosted
@@ -29,7 +28,7 @@ use Rattle.racing_hosted_disk.specs.declared.look.LookEnding.{LookEnding}
 use Rattle.racing_hosted_disk.specs.declared.look.LookEnding.TheVariants as look
 use Rattle.racing_hosted_disk.specs.declared.look.LookLimits.{LookLimits}
 use Rattle.racing_hosted_disk.specs.Looking.{AreLooks, EndsLooks, Look, LooksUnless, Place, place_at, progress_of}
-use Rattle.racing_hosted_disk.specs.Tags.{free_tag}
+use Rattle.block_device.specs.Tags.{free_tag}
 use Rattle.racing_guest.specs.Block.{showing}
 use Rattle.racing_guest.proofs.Telling.{with_ring_same}
 use Rattle.standing_guest.specs.Rest.{WindowRests, WindowStands}
@@ -57,7 +56,7 @@ ends_unready device q (Some tag) at = record {
 pub looks_unready : (device : BlockDevice) (q : HostedQueue) (on_hold : Bool) → queue_at 0 q.window ≡ None
     → hosted.LooksUnless on_hold device q q
 looks_unready device q true at = refl
-looks_unready device q false at = record { asked = []; looks = ends_unready device q (still.free_tag q.tags) at }
+looks_unready device q false at = record { asked = []; looks = ends_unready device q (free_tag q.tags) at }
 
 -- ---- looks
 

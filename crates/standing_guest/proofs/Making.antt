@@ -5,7 +5,7 @@ use Rattle.guest_memory.specs.declared.spec.RegionSpec.{RegionSpec}
 use Rattle.guest_memory.specs.Faults.{zeroed_regions}
 use Rattle.guest_memory.specs.Memory.{Memory}
 use Rattle.block_device.specs.Flights as still
-use Rattle.block_device.specs.Flights.{is_any}
+use Rattle.block_device.specs.Tags.{is_any}
 use Rattle.racing_guest.specs.declared.reply.GuestWindow.{GuestWindow}
 use Rattle.racing_guest.specs.declared.reply.GuestWindow.TheVariants.{Block, Console}
 use Rattle.racing_guest.specs.declared.spec.GuestSpec.{GuestSpec}

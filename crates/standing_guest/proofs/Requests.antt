@@ -26,8 +26,8 @@ use Rattle.racing_hosted_disk.specs.declared.look.LookEnding.{LookEnding}
 use Rattle.racing_hosted_disk.specs.declared.look.LookEnding.TheVariants as look
 use Rattle.racing_hosted_disk.specs.declared.look.LookLimits.{LookLimits}
 use Rattle.racing_hosted_disk.specs.Looking.{AreLooks, AsksIn, EndsLooks, FindsIn, Look, Place, place_at, progress_of, stage_behind}
-use Rattle.racing_hosted_disk.specs.Tags.{InFlight, free_tag}
-use Rattle.racing_hosted_disk.proofs.Freeing.{set_free}
+use Rattle.block_device.specs.Tags.{InFlight, free_tag}
+use Rattle.block_device.proofs.Freeing.{set_free}
 use Rattle.racing_guest.specs.Block.{showing}
 use Rattle.standing_guest.specs.Slot.{in_flight}
 use Rattle.standing_guest.proofs.Asking.{answers_on, asks_next, next_opens}

@@ -4,23 +4,23 @@ use Rattle.std.specs.Option.{option_map}
 use Rattle.std.proofs.lemmas.List.{map-set}
 use Rattle.mmio_window.specs.declared.queue.Token.{Token}
 use Rattle.block_device.specs.Flights as still
-use Rattle.racing_hosted_disk.specs.Tags.{InFlight, free_tag, freed, is_any}
+use Rattle.block_device.specs.Tags.{InFlight, free_tag, freed, is_any}
 use Rattle.standing_guest.specs.Slot.{in_flight}
 
 abbrev pub as_still : List (Option (InFlight Token)) → List (Option still.InFlight)
 as_still tags = map (option_map in_flight) tags
 
-pub same_free : (tags : List (Option (InFlight Token))) → still.free_tag (as_still tags) ≡ free_tag tags
+pub same_free : (tags : List (Option (InFlight Token))) → free_tag (as_still tags) ≡ free_tag tags
 same_free [] = refl
 same_free (None ∷ tags) = refl
 same_free (Some here ∷ tags) = ap (option_map suc) (same_free tags)
 
-pub same_any : (tags : List (Option (InFlight Token))) → still.is_any (as_still tags) ≡ is_any tags
+pub same_any : (tags : List (Option (InFlight Token))) → is_any (as_still tags) ≡ is_any tags
 same_any [] = refl
 same_any (None ∷ tags) = same_any tags
 same_any (Some here ∷ tags) = refl
 
-pub same_freed : (tags : List (Option (InFlight Token))) → still.freed (as_still tags) ≡ as_still (freed tags)
+pub same_freed : (tags : List (Option (InFlight Token))) → freed (as_still tags) ≡ as_still (freed tags)
 same_freed [] = refl
 same_freed (tag ∷ tags) = ap (λ rest. None ∷ rest) (same_freed tags)
 

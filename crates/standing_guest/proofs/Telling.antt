@@ -23,7 +23,7 @@ use Rattle.racing_service.specs.declared.stage.Stage.TheVariants.{First, Again}
 use Rattle.racing_hosted_disk.specs.declared.look.LookLimits.{LookLimits}
 use Rattle.racing_hosted_disk.specs.Disk.{RacingHostedDisk}
 use Rattle.racing_hosted_disk.specs.Looking.{Place}
-use Rattle.racing_hosted_disk.specs.Tags.{InFlight, freed, is_any}
+use Rattle.block_device.specs.Tags.{InFlight, freed, is_any}
 use Rattle.racing_hosted_disk.specs.Told.{has_effect}
 use Rattle.racing_guest.specs.Block.{IsToldBy, TellsBlock, TellsUnserved, showing}
 use Rattle.racing_guest.specs.Guest.{IsSoundGuest, RacingGuest}

@@ -7,7 +7,7 @@ use Rattle.guest_memory.specs.Memory.{Memory}
 use Rattle.mmio_window.specs.declared.queue.Token.{Token}
 use Rattle.block_device.specs.Flights as still
 use Rattle.racing_hosted_disk.specs.Disk.{RacingHostedDisk}
-use Rattle.racing_hosted_disk.specs.Tags.{InFlight}
+use Rattle.block_device.specs.Tags.{InFlight}
 use Rattle.racing_guest.specs.declared.reply.GuestWindow.{GuestWindow}
 use Rattle.racing_guest.specs.declared.reply.GuestWindow.TheVariants as guest_window
 use Rattle.racing_guest.specs.declared.spec.GuestSpec.{GuestSpec}
@@ -45,6 +45,8 @@ abbrev pub slot_of : Memory → RacingGuest → SlotState
 slot_of m guest = record {
   memory = m;
   extent = [];
+  spare = 0;
+  spare_bytes = [];
   host = Some (disk_of guest.block.disk);
   on_hold = guest.block.disk.on_hold;
   read_only = guest.block.disk.device.read_only;
@@ -66,6 +68,7 @@ abbrev pub slot_spec : List RegionSpec → GuestSpec → SlotSpec
 slot_spec regions spec = record {
   regions = regions;
   extent = record { start = 0; count = spec.sectors };
+  spare = 0;
   backing = Host spec.depth;
   read_only = spec.read_only;
   cols = spec.cols;

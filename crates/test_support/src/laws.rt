@@ -4,7 +4,7 @@
 ghost use Rattle.std.specs.Prelude.{◌≡◌, ℕ, ◌+◌, ◌*◌, ◌≤◌, Contains, List, [], ◌∷◌, Some, true, false, length, replicate};
 ghost use Rattle.std.specs.List.{slice_get};
 ghost use Rattle.chain.specs.Service.{Served, ServesAll, Site, after};
-ghost use Rattle.sector_cache.specs.Sector.{extent_of, sector_of, with_sector};
+ghost use Rattle.sector_cache.specs.Sector.{sector_of, with_sector};
 ghost use Rattle.sector_cache.specs.Stop.{BeginsAt, Only, unnumbered};
 ghost use Rattle.mmio_window.specs.declared.queue.Queue.{Queue};
 ghost use Rattle.mmio_window.specs.Queue.{queue_kind};
@@ -15,7 +15,7 @@ ghost use Rattle.board.specs.Durable.{IsLeftAsSeen, TouchesSlot};
 ghost use Rattle.board.specs.Extent.{IsApart};
 ghost use Rattle.board.specs.Image.{Tells, bytes_of};
 ghost use Rattle.board.specs.Line.{Move, IsLine};
-ghost use Rattle.board.specs.Slot.{BoardSlot, state_of};
+ghost use Rattle.board.specs.Slot.{BoardSlot, state_of, whole_extent};
 ghost use Rattle.board.specs.World.{BoardState, World, world_of};
 ghost use Rattle.test_support.specs.WriteBack.{MayStand, Waits, disk_of, left_since_of, may_leave_of, number_of};
 ghost use Rattle.test_support.specs.declared.write_back_image.WriteBackImage.{WriteBackImage};
@@ -60,14 +60,14 @@ pub fn a_stop_between_events_over_a_write_cache<A: Allocator + Copy, B: Allocato
 pub fn a_cut_event_over_a_write_cache<A: Allocator + Copy>()
     ensures known { (old new : BoardState (WriteBackImage A)) (g : ℕ) (own other : BoardSlot) (bytes left : List ℕ) →
         TouchesSlot unnumbered may_leave_of left_since_of g old new → slice_get old.slots g ≡ Some own →
-        IsApart own.extent other.extent → Only bytes (may_leave_of old.image) →
+        IsApart (whole_extent own) (whole_extent other) → Only bytes (may_leave_of old.image) →
         left_since_of new.image (number_of old.image) left →
-        extent_of left other.extent.start other.extent.count ≡ extent_of bytes other.extent.start other.extent.count }
+        state_of left other ≡ state_of bytes other }
     ensures seen { (old new : BoardState (WriteBackImage A)) (g : ℕ) (own other : BoardSlot) (left : List ℕ) →
         TouchesSlot unnumbered may_leave_of left_since_of g old new → slice_get old.slots g ≡ Some own →
-        IsApart own.extent other.extent → (disk_of old.image).dirty ≡ false →
+        IsApart (whole_extent own) (whole_extent other) → (disk_of old.image).dirty ≡ false →
         left_since_of new.image (number_of old.image) left →
-        extent_of left other.extent.start other.extent.count ≡ (state_of (bytes_of (disk_of old.image)) other).extent }
+        state_of left other ≡ state_of (bytes_of (disk_of old.image)) other }
 {
     a_cut_event_touches_no_other_disk::<WriteBackImage<A>>();
 }

@@ -162,7 +162,7 @@ impl<I: Image, A: Allocator + Copy> Board<I, A> {
         let Some(found) = self.slots.get_mut(slot as usize) else {
             return None;
         };
-        let turn = found.begin_in_place(InPlace::Input(bytes), Budget::UNLIMITED);
+        let turn = found.input(bytes, Budget::UNLIMITED);
         let Turn::Answered(reply) = turn else {
             unreachable!()
         };

@@ -3,7 +3,7 @@
 ghost use Rattle.std.specs.Prelude.{◌≡◌, ◌++◌, [], All, None, Some, IfErr, IfOk, IfSome, IsSomeAnd, OnErr};
 ghost use Rattle.std.specs.List.{slice_get};
 ghost use Rattle.std.specs.Option.{option_and_then, option_map};
-ghost use Rattle.block_device.specs.Flights.{TagIsHeld};
+ghost use Rattle.block_device.specs.Tags.{TagIsHeld};
 ghost use Rattle.device_list.specs.List.{disk_at, is_starved_at, sent_by};
 ghost use Rattle.board.specs.declared.event.DeviceEvent.{DeviceEvent};
 ghost use Rattle.board.specs.declared.event.EventKind.{EventKind};

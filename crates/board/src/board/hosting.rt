@@ -3,7 +3,7 @@
 ghost use Rattle.std.specs.Prelude.{◌≡◌, ◌↔◌, ◌<◌, None, IfSome, IsSome, IsSomeAnd, get_or, length};
 ghost use Rattle.std.specs.List.{slice_get};
 ghost use Rattle.std.specs.Option.{option_and_then, option_map};
-ghost use Rattle.block_device.specs.Flights.{operation_in, runs_in, taken_bits};
+ghost use Rattle.block_device.specs.Tags.{operation_in, runs_in, taken_bits};
 ghost use Rattle.block_device.specs.Operation.{LiesInside};
 ghost use Rattle.board.specs.Backing.{tags_in};
 ghost use Rattle.board.specs.Slot.{sectors_in};

@@ -109,9 +109,9 @@ impl<I: Image, A: Allocator + Copy> Board<I, A> {
         ensures takes { Tells (I.disk self.old.image) → slot < length self.old.slots →
             TakesTurn (Begins (event_in what.entry) budget) (world_of I.disk self.old) slot result.turn
             result.block_irq result.console_irq [] [] (world_of I.disk self.new) }
-        ensures image { self.new.image ≡ self.old.image }
-        ensures extents { extents_of self.new.slots ≡ extents_of self.old.slots }
-        ensures disturbed { disturbed_of self.new.slots ≡ disturbed_of self.old.slots }
+        ensures stays { StaysInExtents I.disk self.old self.new }
+        ensures touches { TouchesSlot I.moment I.may_leave I.left_since slot self.old self.new }
+        ensures noted { NotesRefusal I.disk slot (met_in result.turn) self.old self.new }
         ensures shown { (found : BoardSlot) → slice_get self.new.slots slot ≡ Some found →
             (result.block_irq, result.console_irq) ≡ interrupt_words found }
         ensures words { AreInterruptWords result.block_irq result.console_irq }
@@ -125,7 +125,7 @@ impl<I: Image, A: Allocator + Copy> Board<I, A> {
         let Some(slot) = self.slots.get_mut(slot as usize) else {
             return Taken::missing();
         };
-        let turn = slot.begin_in_place(what, budget);
+        let turn = slot.begin_in_place(what, budget, &mut self.cache);
         Taken::after(turn, slot)
     }
 
@@ -134,9 +134,8 @@ impl<I: Image, A: Allocator + Copy> Board<I, A> {
         ensures step { Tells (I.disk self.old.image) → Answers (world_of I.disk self.old)
             (record { slot = slot; what = event_in what.entry }) result [] [] (world_of I.disk self.new) }
         ensures others { KeepsOthers slot self.old.slots self.new.slots }
-        ensures extents { extents_of self.new.slots ≡ extents_of self.old.slots }
-        ensures image { self.new.image ≡ self.old.image }
-        ensures disturbed { disturbed_of self.new.slots ≡ disturbed_of self.old.slots }
+        ensures stays { StaysInExtents I.disk self.old self.new }
+        ensures touches { TouchesSlot I.moment I.may_leave I.left_since slot self.old self.new }
     {
         let Taken {
             turn,

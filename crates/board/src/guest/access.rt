@@ -1,11 +1,11 @@
 //! What an embedder reaches of a guest between its events.
 
-ghost use Rattle.std.specs.Prelude.{◌≡◌, ◌++◌, ◌∷◌, [], None, IfErr, IfOk, IfSome, OnErr, OnOk, get_or, length};
+ghost use Rattle.std.specs.Prelude.{◌≡◌, ◌≢◌, ◌||◌, ◌++◌, ◌∷◌, [], None, IfErr, IfOk, IfSome, OnErr, OnOk, get_or, length};
 ghost use Rattle.std.specs.Bool.{OnTrue, OnFalse};
 ghost use Rattle.std.specs.Borrow.{sem};
 ghost use Rattle.guest_memory.specs.Memory.{Inside, IsRest, SameRange, is_inside, stored};
 ghost use Rattle.guest_memory.specs.Pages.{bits_of};
-ghost use Rattle.block_device.specs.Flights.{operation_in, runs_in, taken_bits};
+ghost use Rattle.block_device.specs.Tags.{operation_in, runs_in, taken_bits};
 ghost use Rattle.block_device.specs.Operation.{LiesInside};
 ghost use Rattle.device_list.specs.Device.{fresh_device};
 ghost use Rattle.device_list.specs.List.{IsRefusedFor, refusal_of};
@@ -14,16 +14,22 @@ ghost use Rattle.board.specs.declared.event.EventKind.{EventKind};
 ghost use Rattle.board.specs.Backing.{tags_in};
 ghost use Rattle.board.specs.InPlace.{event_in};
 ghost use Rattle.board.specs.Lending.{LendsBytes, with_page_bits};
-ghost use Rattle.board.specs.Quiet.{AnswersQuietly, BeginsQuietly};
-ghost use Rattle.board.specs.Slot.{AreInterruptWords, interrupt_words, sectors_in};
+ghost use Rattle.board.specs.Pausing.{Begins, PausesByLimit, ServesOver, met_in};
+ghost use Rattle.board.specs.Quiet.{AnswersQuietly, AsksImageDisk, BeginsQuietly};
+ghost use Rattle.board.specs.declared.pause.Turn.{Turn};
+ghost use Rattle.board.specs.declared.reply.Reply.{Reply};
+ghost use Rattle.block_device.specs.Extent.{IsWithin, TouchesExtent};
+ghost use Rattle.board.specs.Slot.{AreInterruptWords, KeepsPlace, StaysInSlot, interrupt_words, sectors_in, whole_extent};
 
 use crate::guest::Guest;
 use crate::in_place::InPlace;
-use crate::pause::Turn;
+use crate::pause::{Pause, Turn};
 use crate::slot::Slot;
 use block_device::Operation;
 use chain::{Budget, Segment};
 use device_list::{AddRefusal, DeviceSpec};
+use mmio_window::Stage;
+use sector_cache::{Image, SectorCache};
 use std::alloc::Allocator;
 use std_alloc::vec::Lodged;
 
@@ -67,7 +73,7 @@ impl<A: Allocator> Guest<A> {
         ensures done { OnTrue result
             (self.new ≡ record self.old { memory = stored self.old.memory addr new.now }) }
         ensures kept { OnFalse result (self.new ≡ self.old) }
-        ensures extent { self.new.extent ≡ self.old.extent }
+        ensures place { KeepsPlace self.old self.new }
         ensures disturbed { self.new.disturbed ≡ self.old.disturbed }
     {
         self.slot.put_bytes(addr, new)
@@ -106,22 +112,63 @@ impl<A: Allocator> Guest<A> {
 }
 
 impl<A: Allocator + Copy> Guest<A> {
+    /// Types to the console. The service may pause where the budget is spent.
+    #[inline(always)]
+    pub(crate) fn input(&mut self, bytes: &[u8], budget: Budget) -> Turn<A>
+        ensures { BeginsQuietly self.old (EventKind.Input bytes.now) budget self.new result }
+    {
+        self.slot.input(bytes, budget)
+    }
+
     /// Begins an event whose bytes are in a slice. A service that it asks for may pause where the budget is spent.
     #[inline(always)]
-    pub(crate) fn begin_in_place(&mut self, what: InPlace<'_>, budget: Budget) -> Turn<A>
-        ensures { BeginsQuietly self.old (event_in what.entry) budget self.new result }
+    pub(crate) fn begin_in_place<I: Image>(
+        &mut self,
+        what: InPlace<'_>,
+        budget: Budget,
+        cache: &mut SectorCache<I, A>,
+    ) -> Turn<A>
+        requires lies { IsWithin (I.disk cache.old).sector_count (whole_extent self.old) }
+        ensures serves { ServesOver (Begins (event_in what.entry) budget) self.old self.new (I.disk cache.old)
+            (I.disk cache.new) result [] [] }
+        ensures noted { self.new.disturbed ≡ (self.old.disturbed ||
+            met_in result (I.disk cache.old).failures (I.disk cache.new).failures) }
+        ensures stays { StaysInSlot self.old self.new (I.disk cache.old) (I.disk cache.new) }
+        ensures touches { TouchesExtent I.moment I.may_leave I.left_since (whole_extent self.old) cache.old cache.new }
+        ensures limited { PausesByLimit budget result }
+        ensures there { result ≢ Turn.Answered Reply.BadSlot }
+        ensures answered { result ≢ Turn.Answered Reply.NoMemory }
+    {
+        match self.begin_beside_image(what, budget) {
+            Ok(turn) => turn,
+            Err(pause) => {
+                let answer = self.slot.serve_image(pause, Stage::First, budget, cache);
+                self.slot.note(answer)
+            }
+        }
+    }
+
+    // The same, but for a service over the image: one that it asks for is to begin.
+    #[inline(always)]
+    fn begin_beside_image(&mut self, what: InPlace<'_>, budget: Budget) -> Result<Turn<A>, Pause>
+        ensures begins { IfOk result (BeginsQuietly self.old (event_in what.entry) budget self.new) }
+        ensures asks { IfErr result (AsksImageDisk {A = A} (event_in what.entry) self.old self.new) }
     {
         match what {
-            InPlace::Input(bytes) => self.slot.input(bytes, budget),
+            InPlace::Input(bytes) => Ok(self.slot.input(bytes, budget)),
             InPlace::Write {
                 device,
                 offset,
                 width,
                 value,
             } => self.slot.write_device(device, offset, width, value, budget),
-            InPlace::Supply { device, bytes } => self.slot.supply_device(device, bytes, budget),
-            InPlace::DropSent { device } => self.slot.drop_sent(device, budget),
-            InPlace::Receive { device, frame } => self.slot.receive_frame(device, frame, budget),
+            InPlace::Supply { device, bytes } => {
+                Ok(self.slot.supply_device(device, bytes, budget))
+            }
+            InPlace::DropSent { device } => Ok(self.slot.drop_sent(device, budget)),
+            InPlace::Receive { device, frame } => {
+                Ok(self.slot.receive_frame(device, frame, budget))
+            }
         }
     }
 
@@ -129,10 +176,10 @@ impl<A: Allocator + Copy> Guest<A> {
     pub(crate) fn plug(&mut self, alloc: A, spec: DeviceSpec) -> Result<u8, AddRefusal>
         ensures plugged { IfOk result (λ number. (number ≡ length self.old.devices) × (self.new ≡
             record self.old { devices = self.old.devices ++ fresh_device spec ∷ [] })) }
-        ensures taken { OnOk result (refusal_of self.old.devices spec ≡ None) }
-        ensures refused { IfErr result (IsRefusedFor self.old.devices spec) }
+        ensures taken { OnOk result (refusal_of self.old.devices self.old.spare spec ≡ None) }
+        ensures refused { IfErr result (IsRefusedFor self.old.devices self.old.spare spec) }
         ensures kept { OnErr result (self.new ≡ self.old) }
-        ensures extent { self.new.extent ≡ self.old.extent }
+        ensures place { KeepsPlace self.old self.new }
     {
         self.slot.plug(alloc, spec)
     }

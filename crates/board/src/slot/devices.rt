@@ -4,21 +4,25 @@ ghost use Rattle.std.specs.Prelude.{◌≡◌, ◌++◌, ◌∷◌, [], All, Non
 ghost use Rattle.std.specs.Bool.{OnTrue, OnFalse};
 ghost use Rattle.std.specs.List.{slice_get};
 ghost use Rattle.std.specs.Option.{option_map};
-ghost use Rattle.block_device.specs.Flights.{TagIsHeld};
+ghost use Rattle.block_device.specs.Tags.{TagIsHeld};
 ghost use Rattle.guest_memory.specs.Memory.{SameRange};
 ghost use Rattle.mmio_window.specs.declared.stage.Stage.{Stage};
 ghost use Rattle.device_list.specs.Device.{TakesSent, fresh_device};
 ghost use Rattle.device_list.specs.List.{At, DevicesServeTo, IsRefusedFor, are_at_work, disk_at, is_starved_at, refusal_of, sent_by};
 ghost use Rattle.board.specs.declared.event.DeviceEvent.{DeviceEvent};
+ghost use Rattle.board.specs.declared.event.EventKind.{EventKind};
 ghost use Rattle.board.specs.Devices.{IsAtOnce, further_service};
-ghost use Rattle.board.specs.Quiet.{BeginsAtDevice, DoesToDevice, ServesFurther};
+ghost use Rattle.board.specs.declared.pause.Service.{Service};
+ghost use Rattle.board.specs.ImageDisks.{image_served_in};
+ghost use Rattle.board.specs.Quiet.{AsksImageDisk, BeginsAtDevice, DoesToDevice, ServesFurther};
 
 use crate::bytes::Bytes;
+use crate::check::is_within;
 use crate::event::DeviceEvent;
 use crate::pause::{Pause, Service, Turn};
 use crate::reply::Reply;
 use crate::slot::Slot;
-use block_device::HostEvent;
+use block_device::{HostEvent, REQUESTQ};
 use chain::{Budget, Chain, Progress};
 use device_list::{AddRefusal, DeviceSpec, HostedDisk, ReceiveRefusal, VirtioDevice, WriteRefusal};
 use mmio_window::{Action, Stage};
@@ -30,7 +34,8 @@ use std::alloc::{AllocError, Allocator};
 const SUPPLIED_QUEUE: u16 = 0;
 
 impl<A: Allocator + Copy> Slot<A> {
-    /// Does this to the further device of this number. A service that it asks for may pause where the budget is spent.
+    /// Does this to the further device of this number. A service that it asks for may pause where the budget is spent; one over the
+    /// image is to begin.
     #[inline(never)]
     pub(super) fn device_event(
         &mut self,
@@ -38,8 +43,9 @@ impl<A: Allocator + Copy> Slot<A> {
         device: u8,
         what: &DeviceEvent<A>,
         budget: Budget,
-    ) -> Turn<A>
-        ensures { BeginsAtDevice device what.now budget self.old self.new result }
+    ) -> Result<Turn<A>, Pause>
+        ensures begins { IfOk result (BeginsAtDevice device what.now budget self.old self.new) }
+        ensures asks { IfErr result (AsksImageDisk (EventKind.Device device what.now) self.old self.new) }
     {
         match what {
             DeviceEvent::Write {
@@ -47,10 +53,14 @@ impl<A: Allocator + Copy> Slot<A> {
                 width,
                 value,
             } => self.write_device(device, *offset, *width, *value, budget),
-            DeviceEvent::Supply { bytes } => self.supply_device(device, bytes.as_slice(), budget),
-            DeviceEvent::Receive { frame } => self.receive_frame(device, frame.as_slice(), budget),
-            DeviceEvent::DropSent => self.drop_sent(device, budget),
-            _ => Turn::Answered(self.device_at_once(alloc, device, what)),
+            DeviceEvent::Supply { bytes } => {
+                Ok(self.supply_device(device, bytes.as_slice(), budget))
+            }
+            DeviceEvent::Receive { frame } => {
+                Ok(self.receive_frame(device, frame.as_slice(), budget))
+            }
+            DeviceEvent::DropSent => Ok(self.drop_sent(device, budget)),
+            _ => Ok(Turn::Answered(self.device_at_once(alloc, device, what))),
         }
     }
 
@@ -80,7 +90,7 @@ impl<A: Allocator + Copy> Slot<A> {
         if usize::from(device) != self.devices.len() {
             return Reply::BadDevice;
         }
-        match self.devices.add(alloc, spec) {
+        match self.devices.add(alloc, spec, self.spare) {
             Ok(_) => Reply::Done,
             Err(AddRefusal::NoMemory) => Reply::NoMemory,
             Err(_) => Reply::BadDevice,
@@ -97,7 +107,7 @@ impl<A: Allocator + Copy> Slot<A> {
         }
     }
 
-    /// Writes a device's window, and has the device do its part, within the budget (4.2.2).
+    /// Writes a device's window, and has the device do its part, within the budget (4.2.2). A service over the image is to begin.
     pub(crate) fn write_device(
         &mut self,
         device: u8,
@@ -105,8 +115,10 @@ impl<A: Allocator + Copy> Slot<A> {
         width: u8,
         value: u32,
         budget: Budget,
-    ) -> Turn<A>
-        ensures { BeginsAtDevice device (DeviceEvent.Write offset width value) budget self.old self.new result }
+    ) -> Result<Turn<A>, Pause>
+        ensures begins { IfOk result (BeginsAtDevice device (DeviceEvent.Write offset width value) budget self.old self.new) }
+        ensures asks { IfErr result (AsksImageDisk {A = A} (EventKind.Device device (DeviceEvent.Write offset width value))
+            self.old self.new) }
     {
         match self
             .devices
@@ -114,11 +126,34 @@ impl<A: Allocator + Copy> Slot<A> {
         {
             Ok(Some(queue)) => {
                 self.counters.wrote(Action::Notify(queue));
-                self.begin_further(device, queue, None, budget)
+                let pause = Pause::of(Service::Further { device, queue });
+                if self.is_of_image(pause.service) {
+                    Err(pause)
+                } else {
+                    Ok(self.begin_further(device, queue, None, budget))
+                }
             }
-            Ok(None) => Turn::Answered(Reply::Done),
-            Err(WriteRefusal::Busy) => Turn::Answered(Reply::Busy),
-            Err(WriteRefusal::NoDevice) => Turn::Answered(Reply::BadDevice),
+            Ok(None) => Ok(Turn::Answered(Reply::Done)),
+            Err(WriteRefusal::Busy) => Ok(Turn::Answered(Reply::Busy)),
+            Err(WriteRefusal::NoDevice) => Ok(Turn::Answered(Reply::BadDevice)),
+        }
+    }
+
+    /// Whether a further disk over the image serves its queue by this service.
+    #[inline(always)]
+    pub(super) fn is_of_image(&self, service: Service) -> bool
+        ensures { result ≡ is_some (image_served_in service self.now) }
+    {
+        let Service::Further {
+            device,
+            queue: REQUESTQ,
+        } = service
+        else {
+            return false;
+        };
+        match self.devices.image_disk(device) {
+            Some(disk) => self.host.is_none() && is_within(disk.extent, self.spare),
+            None => false,
         }
     }
 
@@ -132,6 +167,7 @@ impl<A: Allocator + Copy> Slot<A> {
         taken: Option<usize>,
         budget: Budget,
     ) -> Turn<A>
+        requires no_image { image_served_in (Service.Further device queue) self.old ≡ None }
         ensures { ServesFurther (further_service device queue taken) Stage.First budget self.old self.new result }
     {
         let service = Service::Further { device, queue };
@@ -255,12 +291,12 @@ impl<A: Allocator + Copy> Slot<A> {
     pub(crate) fn plug(&mut self, alloc: A, spec: DeviceSpec) -> Result<u8, AddRefusal>
         ensures plugged { IfOk result (λ number. (number ≡ length self.old.devices) × (self.new ≡
             record self.old { devices = self.old.devices ++ fresh_device spec ∷ [] })) }
-        ensures taken { OnOk result (refusal_of self.old.devices spec ≡ None) }
-        ensures refused { IfErr result (IsRefusedFor self.old.devices spec) }
+        ensures taken { OnOk result (refusal_of self.old.devices self.old.spare spec ≡ None) }
+        ensures refused { IfErr result (IsRefusedFor self.old.devices self.old.spare spec) }
         ensures kept { OnErr result (self.new ≡ self.old) }
         ensures rest { self.new ≡ record self.old { devices = self.new.devices } }
     {
-        self.devices.add(alloc, spec)
+        self.devices.add(alloc, spec, self.spare)
     }
 
     // What the host is answered that takes what was sent where nothing waits.

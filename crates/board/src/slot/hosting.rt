@@ -1,7 +1,7 @@
-//! Beside a slot's disk: what comes of its events but for the block device's part, and, of a slot whose disk the host
+//! Beside the image: what comes of a slot's events but for the services of disks over it, and, of a slot whose disk the host
 //! serves, the block device's looks at its queue.
 
-ghost use Rattle.std.specs.Prelude.{◌≡◌, ◌≢◌, ℕ, List, Some, None, get_or, is_none, is_some, IfSome, IfNone, IsSome};
+ghost use Rattle.std.specs.Prelude.{◌≡◌, ◌≢◌, ℕ, List, Some, None, get_or, is_err, is_some, IfErr, IfOk, OnErr, IsSome};
 ghost use Rattle.std.specs.Bool.{OnTrue, OnFalse};
 ghost use Rattle.std.specs.Option.{option_map};
 ghost use Rattle.guest_memory.specs.Memory.{SameRange};
@@ -15,8 +15,9 @@ ghost use Rattle.board.specs.declared.reply.Reply.{Reply};
 ghost use Rattle.board.specs.Flights.{KeepsFlights};
 ghost use Rattle.board.specs.Hosting.{HoldsFlights, LandsTag, LooksAtQueue, dropped, device_at, notifies_block};
 ghost use Rattle.board.specs.Image.{Health, sectors_of};
-ghost use Rattle.board.specs.Pausing.{BeginsOverImage, ComesTo, PausesByLimit, ServesTurn, readied};
-ghost use Rattle.board.specs.Slot.{state_of};
+ghost use Rattle.board.specs.ImageDisks.{image_served_in};
+ghost use Rattle.board.specs.Pausing.{BeginsOverImage, ComesTo, PausesByLimit, ServesTurn, asked_over_image, readied};
+ghost use Rattle.board.specs.Slot.{KeepsPlace, state_of};
 ghost use Rattle.board.specs.Within.{BeginsWithinOverImage, PieceWithin};
 ghost use Rattle.board.specs.World.{HasBytesToPutOut, MayLackMemory};
 
@@ -34,32 +35,35 @@ use mmio_window::Stage;
 use std::alloc::Allocator;
 
 impl<A: Allocator + Copy> Slot<A> {
-    /// Handles an event, but for the block device's part in it: there is no answer where that device was notified.
+    /// Handles an event, but for a service over the image: one that it asks for is to begin.
     #[inline(always)]
-    pub(crate) fn answer_beside_disk<O: Outlet>(
+    pub(crate) fn answer_beside_image<O: Outlet>(
         &mut self,
         alloc: A,
         what: &EventKind<A>,
         budget: Budget,
         out: &mut O,
-    ) -> Option<Turn<A>>
-        ensures notified { (image : List ℕ) → is_none result ≡ notifies_block what.now (state_of image self.old) }
-        ensures readied { IfNone result ((image : List ℕ) → state_of image self.new ≡ readied what.now (state_of image self.old)) }
-        ensures silent { IfNone result (O.bytes out.new ≡ O.bytes out.old) }
-        ensures serves { IfSome result (λ turn. (image : List ℕ) (health : Health) →
+    ) -> Result<Turn<A>, Pause>
+        ensures notified { IsSome self.old.host → (image : List ℕ) →
+            is_err result ≡ notifies_block what.now (state_of image self.old) }
+        ensures asks { IfErr result (λ pause. (image : List ℕ) →
+            asked_over_image what.now (state_of image self.old) ≡ Some pause) }
+        ensures readied { OnErr result ((image : List ℕ) → state_of image self.new ≡ readied what.now (state_of image self.old)) }
+        ensures silent { OnErr result (O.bytes out.new ≡ O.bytes out.old) }
+        ensures serves { IfOk result (λ turn. (image : List ℕ) (health : Health) →
             sectors_of (state_of image self.old).extent ≡ self.old.extent.count →
             ServesTurn (BeginsOverImage what.now budget) (state_of image self.old) health health (state_of image self.new) turn
             (O.bytes out.old) (O.bytes out.new)) }
-        ensures within { IfSome result (λ turn. (image : List ℕ) (limit : ℕ) → O.limit out.old ≡ Some limit →
+        ensures within { IfOk result (λ turn. (image : List ℕ) (limit : ℕ) → O.limit out.old ≡ Some limit →
             BeginsWithinOverImage limit what.now budget (state_of image self.old) (state_of image self.new)
             (O.bytes out.old) (O.bytes out.new) turn) }
-        ensures limited { IfSome result (PausesByLimit budget) }
+        ensures limited { IfOk result (PausesByLimit budget) }
         ensures limit { O.limit out.new ≡ O.limit out.old }
         ensures keeps { KeepsFlights what.now self.old self.new }
         ensures disturbed { self.new.disturbed ≡ self.old.disturbed }
-        ensures there { IfSome result (λ turn. turn ≢ Turn.Answered Reply.BadSlot) }
-        ensures bad_range { IfSome result (λ turn. turn ≡ Turn.Answered Reply.BadRange → self.new ≡ self.old) }
-        ensures no_memory { IfSome result (λ turn. turn ≡ Turn.Answered Reply.NoMemory → (image : List ℕ) →
+        ensures there { IfOk result (λ turn. turn ≢ Turn.Answered Reply.BadSlot) }
+        ensures bad_range { IfOk result (λ turn. turn ≡ Turn.Answered Reply.BadRange → self.new ≡ self.old) }
+        ensures no_memory { IfOk result (λ turn. turn ≡ Turn.Answered Reply.NoMemory → (image : List ℕ) →
             MayLackMemory (state_of image self.old) what.now) }
     {
         let reply = match what {
@@ -73,23 +77,23 @@ impl<A: Allocator + Copy> Slot<A> {
                 offset,
                 width,
                 value,
-            } => return self.write_beside_disk(*window, *offset, *width, *value, budget, out),
+            } => return self.write_beside_image(*window, *offset, *width, *value, budget, out),
             EventKind::MemRead { addr, len } => self.read_memory(alloc, *addr, *len),
             EventKind::MemWrite { addr, bytes } => self.write_memory(*addr, bytes.as_slice()),
-            EventKind::Input { bytes } => return Some(self.input(bytes.as_slice(), budget)),
+            EventKind::Input { bytes } => return Ok(self.input(bytes.as_slice(), budget)),
             EventKind::Resize { cols, rows } => self.resize(*cols, *rows),
             EventKind::Restore { bytes } => self.answer_restore(bytes.as_slice()),
             EventKind::Host(_) => Reply::Idle,
             EventKind::Device { device, what } => {
-                return Some(self.device_event(alloc, *device, what, budget));
+                return self.device_event(alloc, *device, what, budget);
             }
         };
-        Some(Turn::Answered(reply))
+        Ok(Turn::Answered(reply))
     }
 
-    // Writes a window's registers, and lets its device do its part, but for the block device.
+    // Writes a window's registers, and lets its device do its part, but for the block device: its service is to begin.
     #[inline(always)]
-    fn write_beside_disk<O: Outlet>(
+    fn write_beside_image<O: Outlet>(
         &mut self,
         window: SlotWindow,
         offset: u16,
@@ -97,47 +101,46 @@ impl<A: Allocator + Copy> Slot<A> {
         value: u32,
         budget: Budget,
         out: &mut O,
-    ) -> Option<Turn<A>>
+    ) -> Result<Turn<A>, Pause>
         ensures notified { (image : List ℕ) →
-            is_none result ≡ notifies_block {A = A} (EventKind.Write window offset width value) (state_of image self.old) }
-        ensures readied { IfNone result ((image : List ℕ) →
+            is_err result ≡ notifies_block {A = A} (EventKind.Write window offset width value) (state_of image self.old) }
+        ensures asks { IfErr result (λ pause. (image : List ℕ) →
+            asked_over_image {A = A} (EventKind.Write window offset width value) (state_of image self.old) ≡ Some pause) }
+        ensures readied { OnErr result ((image : List ℕ) →
             state_of image self.new ≡ readied {A = A} (EventKind.Write window offset width value) (state_of image self.old)) }
-        ensures silent { IfNone result (O.bytes out.new ≡ O.bytes out.old) }
-        ensures serves { IfSome result (λ turn. (image : List ℕ) (health : Health) →
+        ensures silent { OnErr result (O.bytes out.new ≡ O.bytes out.old) }
+        ensures serves { IfOk result (λ turn. (image : List ℕ) (health : Health) →
             ServesTurn (BeginsOverImage {A = A} (EventKind.Write window offset width value) budget)
             (state_of image self.old) health health (state_of image self.new) turn (O.bytes out.old) (O.bytes out.new)) }
-        ensures within { IfSome result (λ turn. (image : List ℕ) (limit : ℕ) → O.limit out.old ≡ Some limit →
+        ensures within { IfOk result (λ turn. (image : List ℕ) (limit : ℕ) → O.limit out.old ≡ Some limit →
             BeginsWithinOverImage {A = A} limit (EventKind.Write window offset width value) budget
             (state_of image self.old) (state_of image self.new) (O.bytes out.old) (O.bytes out.new) turn) }
-        ensures limited { IfSome result (PausesByLimit budget) }
+        ensures limited { IfOk result (PausesByLimit budget) }
         ensures limit { O.limit out.new ≡ O.limit out.old }
         ensures keeps { KeepsFlights {A = A} (EventKind.Write window offset width value) self.old self.new }
         ensures disturbed { self.new.disturbed ≡ self.old.disturbed }
-        ensures there { IfSome result (λ turn. turn ≢ Turn.Answered Reply.BadSlot) }
-        ensures bad_range { IfSome result (λ turn. turn ≡ Turn.Answered Reply.BadRange → self.new ≡ self.old) }
-        ensures no_memory { IfSome result (λ turn. turn ≡ Turn.Answered Reply.NoMemory → (image : List ℕ) →
+        ensures there { IfOk result (λ turn. turn ≢ Turn.Answered Reply.BadSlot) }
+        ensures bad_range { IfOk result (λ turn. turn ≡ Turn.Answered Reply.BadRange → self.new ≡ self.old) }
+        ensures no_memory { IfOk result (λ turn. turn ≡ Turn.Answered Reply.NoMemory → (image : List ℕ) →
             MayLackMemory {A = A} (state_of image self.old) (EventKind.Write window offset width value)) }
     {
         match self.write_registers(window, offset, width, value) {
-            Task::Serve(Service::Block) => None,
+            Task::Serve(Service::Block) => Err(Pause::of(Service::Block)),
             Task::Serve(service) => {
-                let pause = Pause {
-                    service,
-                    taken: None,
-                };
-                Some(self.serve_beside_disk(pause, Stage::First, budget, out))
+                Ok(self.serve_beside_image(Pause::of(service), Stage::First, budget, out))
             }
             Task::PutOut(byte) => {
                 let put_out = self.console_device.emergency(byte, out);
-                Some(Turn::Answered(reply_to(put_out)))
+                Ok(Turn::Answered(reply_to(put_out)))
             }
-            Task::Nothing => Some(Turn::Answered(Reply::Done)),
+            Task::Nothing => Ok(Turn::Answered(Reply::Done)),
         }
     }
 
-    /// Serves a piece of a service of the console or of a further device. What the console puts out is appended to `out`.
+    /// Serves a piece of a service of the console or of a further device, but for one over the image. What the console puts out is
+    /// appended to `out`.
     #[inline(always)]
-    pub(crate) fn serve_beside_disk<O: Outlet>(
+    pub(crate) fn serve_beside_image<O: Outlet>(
         &mut self,
         pause: Pause,
         stage: Stage,
@@ -145,6 +148,7 @@ impl<A: Allocator + Copy> Slot<A> {
         out: &mut O,
     ) -> Turn<A>
         requires beside { pause.service ≢ Service.Block }
+        requires no_image { image_served_in pause.service self.old ≡ None }
         ensures beside { pause.service ≢ Service.Block }
         ensures serves { (image : List ℕ) (health : Health) →
             ServesTurn (ComesTo pause stage budget) (state_of image self.old) health health
@@ -157,7 +161,7 @@ impl<A: Allocator + Copy> Slot<A> {
         ensures host { self.new.host ≡ self.old.host }
         ensures block { self.new.block ≡ self.old.block }
         ensures range { SameRange self.old.memory self.new.memory }
-        ensures extent { self.new.extent ≡ self.old.extent }
+        ensures place { KeepsPlace self.old self.new }
         ensures disturbed { self.new.disturbed ≡ self.old.disturbed }
         ensures there { result ≢ Turn.Answered Reply.BadSlot }
         ensures in_range { result ≢ Turn.Answered Reply.BadRange }

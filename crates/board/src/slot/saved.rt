@@ -12,7 +12,7 @@ ghost use Rattle.board.specs.declared.event.EventKind.{EventKind};
 ghost use Rattle.board.specs.declared.reply.Reply.{Reply};
 ghost use Rattle.board.specs.Image.{Health, sectors_of};
 ghost use Rattle.board.specs.Outcome.{replies};
-ghost use Rattle.board.specs.Slot.{BoardSlot, state_of};
+ghost use Rattle.board.specs.Slot.{BoardSlot, KeepsPlace, state_of};
 ghost use Rattle.board.specs.World.{MayGiveOverImage};
 
 use crate::reply::Reply;
@@ -82,7 +82,7 @@ impl<A: Allocator> Slot<A> {
         ensures ok { OnOk result (IsRestored self.old from.now self.new) }
         ensures fault { IfErr result (IsCauseOf self.old from.now) }
         ensures kept { OnErr result (self.new ≡ self.old) }
-        ensures extent { self.new.extent ≡ self.old.extent }
+        ensures place { KeepsPlace self.old self.new }
         ensures host { self.new.host ≡ self.old.host }
         ensures memory { self.new.memory ≡ self.old.memory }
         ensures disturbed { self.new.disturbed ≡ self.old.disturbed }
@@ -102,7 +102,7 @@ impl<A: Allocator> Slot<A> {
             sectors_of (state_of image self.old).extent ≡ self.old.extent.count →
             MayGiveOverImage (state_of image self.old) (EventKind.Restore from.now) health health
             (replies (state_of image self.new) result) }
-        ensures extent { self.new.extent ≡ self.old.extent }
+        ensures place { KeepsPlace self.old self.new }
         ensures host { self.new.host ≡ self.old.host }
         ensures memory { self.new.memory ≡ self.old.memory }
         ensures disturbed { self.new.disturbed ≡ self.old.disturbed }
@@ -127,7 +127,7 @@ impl<A: Allocator> Slot<A> {
         ensures fault { IfErr result (Prevents self.old saved.now) }
         ensures offers { OffersFeatures self.old }
         ensures kept { OnErr result (self.new ≡ self.old) }
-        ensures extent { self.new.extent ≡ self.old.extent }
+        ensures place { KeepsPlace self.old self.new }
         ensures host { self.new.host ≡ self.old.host }
         ensures memory { self.new.memory ≡ self.old.memory }
         ensures disturbed { self.new.disturbed ≡ self.old.disturbed }

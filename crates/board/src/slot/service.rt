@@ -1,6 +1,6 @@
 //! The services of the slot's queues, piece by piece.
 
-ghost use Rattle.std.specs.Prelude.{◌≡◌, ◌≢◌, nat_lt, IfOk, OnErr};
+ghost use Rattle.std.specs.Prelude.{◌≡◌, ◌≢◌, [], nat_lt, IfOk, OnErr, IsSome};
 ghost use Rattle.guest_memory.specs.Memory.{SameRange};
 ghost use Rattle.mmio_window.specs.declared.stage.Stage.{Stage};
 ghost use Rattle.mmio_window.specs.Window.{queue_at};
@@ -12,8 +12,10 @@ ghost use Rattle.board.specs.declared.pause.Service.{Service};
 ghost use Rattle.board.specs.declared.pause.Turn.{Turn};
 ghost use Rattle.board.specs.declared.reply.Reply.{Reply};
 ghost use Rattle.mmio_window.specs.Pieces.{IsRefusedAt, ServesTo};
+ghost use Rattle.board.specs.Image.{Tells, bytes_of, health_of};
+ghost use Rattle.board.specs.ImageDisks.{image_served_in};
 ghost use Rattle.board.specs.Pausing.{ComesTo, PausesByLimit, ServesOver};
-ghost use Rattle.board.specs.Slot.{IsUnnoted};
+ghost use Rattle.board.specs.Slot.{IsUnnoted, state_of, whole_extent};
 ghost use Rattle.board.specs.Within.{DecidesOver, PieceWithin};
 ghost use Rattle.board.specs.World.{HasBytesToPutOut};
 
@@ -37,7 +39,7 @@ impl<A: Allocator + Copy> Slot<A> {
         cache: &mut SectorCache<I, A>,
         out: &mut O,
     ) -> Answer<A>
-        requires lies { IsWithin (I.disk cache.old).sector_count self.old.extent }
+        requires lies { IsWithin (I.disk cache.old).sector_count (whole_extent self.old) }
         ensures serves { ServesOver (ComesTo pause stage budget) self.old self.new (I.disk cache.old)
             (I.disk cache.new) result.turn (O.bytes out.old) (O.bytes out.new) }
         ensures within { DecidesOver (λ limit. PieceWithin limit pause stage budget) (O.limit out.old) self.old self.new
@@ -45,25 +47,61 @@ impl<A: Allocator + Copy> Slot<A> {
         ensures limit { O.limit out.new ≡ O.limit out.old }
         ensures unnoted { IsUnnoted self.old self.new (I.disk cache.old) (I.disk cache.new) result.failed }
         ensures host { self.new.host ≡ self.old.host }
-        ensures touches { TouchesExtent I.moment I.may_leave I.left_since self.old.extent cache.old cache.new }
+        ensures touches { TouchesExtent I.moment I.may_leave I.left_since (whole_extent self.old) cache.old cache.new }
         ensures no_memory { result.turn ≡ Turn.Answered Reply.NoMemory → stage ≡ Stage.First →
             (pause.service ≡ Service.Transmit) × HasBytesToPutOut self.old.memory self.old.console }
         ensures limited { PausesByLimit budget result.turn }
         ensures there { result.turn ≢ Turn.Answered Reply.BadSlot }
         ensures in_range { result.turn ≢ Turn.Answered Reply.BadRange }
     {
-        match pause.service {
-            Service::Block => {
-                let Piece { progress, failed } = self.serve_block(stage, budget, cache);
-                Answer {
-                    turn: pause.turn(progress),
-                    failed,
-                }
-            }
-            Service::Receive | Service::Transmit | Service::Further { .. } => Answer {
-                turn: self.serve_beside_disk(pause, stage, budget, out),
-                failed: false,
-            },
+        if let Service::Block = pause.service {
+            let Piece { progress, failed } = self.serve_block(stage, budget, cache);
+            return Answer {
+                turn: pause.turn(progress),
+                failed,
+            };
+        }
+        if self.is_of_image(pause.service) {
+            return self.serve_image(pause, stage, budget, cache);
+        }
+        Answer {
+            turn: self.serve_beside_image(pause, stage, budget, out),
+            failed: false,
+        }
+    }
+
+    /// Serves a piece of the service of a further disk over the image.
+    pub(crate) fn serve_image<I: Image>(
+        &mut self,
+        pause: Pause,
+        stage: Stage,
+        budget: Budget,
+        cache: &mut SectorCache<I, A>,
+    ) -> Answer<A>
+        requires disk { IsSome (image_served_in pause.service self.old) }
+        requires lies { IsWithin (I.disk cache.old).sector_count (whole_extent self.old) }
+        ensures serves { Tells (I.disk cache.old) → ComesTo pause stage budget (state_of (bytes_of (I.disk cache.old)) self.old)
+            (health_of (I.disk cache.old)) (health_of (I.disk cache.new))
+            (state_of (bytes_of (I.disk cache.new)) self.new) [] result.turn }
+        ensures rest { self.new ≡ record self.old { memory = self.new.memory; devices = self.new.devices } }
+        ensures unnoted { IsUnnoted self.old self.new (I.disk cache.old) (I.disk cache.new) result.failed }
+        ensures touches { TouchesExtent I.moment I.may_leave I.left_since (whole_extent self.old) cache.old cache.new }
+        ensures limited { PausesByLimit budget result.turn }
+        ensures there { result.turn ≢ Turn.Answered Reply.BadSlot }
+        ensures in_range { result.turn ≢ Turn.Answered Reply.BadRange }
+        ensures answered { result.turn ≢ Turn.Answered Reply.NoMemory }
+    {
+        let Service::Further { device, .. } = pause.service else {
+            unreachable!()
+        };
+        let base = self.block_device.extent.start + self.block_device.extent.count;
+        let (memory, room) = (&mut self.memory, &mut self.chain);
+        let Piece { progress, failed } = self
+            .devices
+            .serve_image(device, base, memory, cache, stage, budget, room);
+        Answer {
+            turn: pause.turn(progress),
+            failed,
         }
     }
 

@@ -5,7 +5,7 @@ ghost use Rattle.board.specs.declared.event.SlotWindow.{SlotWindow};
 ghost use Rattle.board.specs.declared.reply.Reply.{Reply};
 ghost use Rattle.board.specs.Image.{sectors_of};
 ghost use Rattle.board.specs.Machine.{register, task_at, window_of, with_write};
-ghost use Rattle.board.specs.Slot.{state_of};
+ghost use Rattle.board.specs.Slot.{KeepsPlace, state_of};
 ghost use Rattle.board.specs.Task.{task_of};
 
 use crate::event::SlotWindow;
@@ -59,7 +59,7 @@ impl<A: Allocator + Copy> Slot<A> {
         ensures task { (image : List ℕ) → result ≡ task_at window offset width value (state_of image self.old) }
         ensures written { (image : List ℕ) →
             state_of image self.new ≡ with_write window offset width value (state_of image self.old) }
-        ensures extent { self.new.extent ≡ self.old.extent }
+        ensures place { KeepsPlace self.old self.new }
         ensures disturbed { self.new.disturbed ≡ self.old.disturbed }
     {
         match window {

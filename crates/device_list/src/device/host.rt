@@ -113,7 +113,7 @@ impl<A: Allocator> VirtioDevice<A> {
         self.model.starved(mem, &self.window, room)
     }
 
-    /// The disk that it is, if it is one.
+    /// The disk that its host serves, if it is one.
     pub(crate) fn disk(&self) -> Option<&HostedDisk<A>>
         ensures { option_map (λ disk. disk.now) result ≡ disk_of self.now.model }
     {

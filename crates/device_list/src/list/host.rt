@@ -124,7 +124,7 @@ impl<A: Allocator> DeviceList<A> {
         Some(found.starved(mem, room))
     }
 
-    /// The disk of this number. There is none where the device isn't there or is none.
+    /// The disk of this number that its host serves. There is none where the device isn't there or is none.
     pub fn disk(&self, device: u8) -> Option<&HostedDisk<A>>
         ensures { option_map (λ disk. disk.now) result ≡ disk_at device self.now }
     {

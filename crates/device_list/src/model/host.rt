@@ -8,12 +8,12 @@ ghost use Rattle.mmio_window.specs.Soundness.{IsSound};
 ghost use Rattle.hosted_disk.specs.Told.{has_effect};
 ghost use Rattle.device_list.specs.Card.{receive_refusal, with_frame, with_link};
 ghost use Rattle.device_list.specs.Device.{Told};
-ghost use Rattle.device_list.specs.Model.{IsHeld, KeepsModel, card_of, disk_of, features_of, is_at_work, is_starving, kind_of, sent_of, state_of, supplied_model, taken_of, terminal_of, with_card, with_terminal, without_sent};
+ghost use Rattle.device_list.specs.Model.{IsHeld, KeepsModel, card_of, disk_of, features_of, image_of, is_at_work, is_starving, kind_of, sent_of, state_of, supplied_model, taken_of, terminal_of, with_card, with_terminal, without_sent};
 ghost use Rattle.device_list.specs.Terminal.{with_size};
 
 use crate::model::DeviceModel;
 use crate::refusal::ReceiveRefusal;
-use block_device::HostEvent;
+use block_device::{BlockDevice, HostEvent};
 use chain::Chain;
 use guest_memory::GuestMemory;
 use hosted_disk::HostedDisk;
@@ -30,7 +30,7 @@ impl<A: Allocator> DeviceModel<A> {
     {
         match self {
             DeviceModel::Entropy(entropy) => Some(entropy.supply(bytes)),
-            DeviceModel::Network(_) | DeviceModel::Block(_) => None,
+            DeviceModel::Network(_) | DeviceModel::Block(_) | DeviceModel::Image(_) => None,
             DeviceModel::Console(terminal) => Some(terminal.supply(bytes)),
         }
     }
@@ -44,9 +44,10 @@ impl<A: Allocator> DeviceModel<A> {
         ensures keeps { KeepsModel (state_of self.old) (state_of self.new) }
     {
         match self {
-            DeviceModel::Entropy(_) | DeviceModel::Block(_) | DeviceModel::Console(_) => {
-                Err(ReceiveRefusal::NoDevice)
-            }
+            DeviceModel::Entropy(_)
+            | DeviceModel::Block(_)
+            | DeviceModel::Console(_)
+            | DeviceModel::Image(_) => Err(ReceiveRefusal::NoDevice),
             DeviceModel::Network(card) => card.receive(frame).map_err(ReceiveRefusal::Frame),
         }
     }
@@ -56,7 +57,7 @@ impl<A: Allocator> DeviceModel<A> {
         ensures { option_map (λ parts. parts.0.now ++ parts.1.now) result ≡ sent_of (state_of self.now) }
     {
         match self {
-            DeviceModel::Entropy(_) | DeviceModel::Block(_) => None,
+            DeviceModel::Entropy(_) | DeviceModel::Block(_) | DeviceModel::Image(_) => None,
             DeviceModel::Network(card) => card.sent(),
             DeviceModel::Console(terminal) => terminal.sent(),
         }
@@ -70,7 +71,7 @@ impl<A: Allocator> DeviceModel<A> {
         ensures keeps { KeepsModel (state_of self.old) (state_of self.new) }
     {
         match self {
-            DeviceModel::Entropy(_) | DeviceModel::Block(_) => false,
+            DeviceModel::Entropy(_) | DeviceModel::Block(_) | DeviceModel::Image(_) => false,
             DeviceModel::Network(card) => card.take_sent(),
             DeviceModel::Console(terminal) => terminal.take_sent(),
         }
@@ -84,7 +85,10 @@ impl<A: Allocator> DeviceModel<A> {
         ensures keeps { KeepsModel (state_of self.old) (state_of self.new) }
     {
         match self {
-            DeviceModel::Entropy(_) | DeviceModel::Block(_) | DeviceModel::Console(_) => false,
+            DeviceModel::Entropy(_)
+            | DeviceModel::Block(_)
+            | DeviceModel::Console(_)
+            | DeviceModel::Image(_) => false,
             DeviceModel::Network(card) => {
                 card.set_link(up);
                 true
@@ -100,7 +104,10 @@ impl<A: Allocator> DeviceModel<A> {
         ensures keeps { KeepsModel (state_of self.old) (state_of self.new) }
     {
         match self {
-            DeviceModel::Entropy(_) | DeviceModel::Network(_) | DeviceModel::Block(_) => false,
+            DeviceModel::Entropy(_)
+            | DeviceModel::Network(_)
+            | DeviceModel::Block(_)
+            | DeviceModel::Image(_) => false,
             DeviceModel::Console(terminal) => {
                 terminal.resize(cols, rows);
                 true
@@ -121,18 +128,34 @@ impl<A: Allocator> DeviceModel<A> {
         match self {
             DeviceModel::Entropy(entropy) => entropy.starved(mem, window, room),
             DeviceModel::Network(card) => card.starved(mem, window, room),
-            DeviceModel::Block(_) => false,
+            DeviceModel::Block(_) | DeviceModel::Image(_) => false,
             DeviceModel::Console(terminal) => terminal.starved(mem, window, room),
         }
     }
 
-    /// The disk that it is, if it is one.
+    /// The disk that its host serves, if it is one.
     pub fn disk(&self) -> Option<&HostedDisk<A>>
         ensures { option_map (λ disk. disk.now) result ≡ disk_of (state_of self.now) }
     {
         match self {
-            DeviceModel::Entropy(_) | DeviceModel::Network(_) | DeviceModel::Console(_) => None,
+            DeviceModel::Entropy(_)
+            | DeviceModel::Network(_)
+            | DeviceModel::Console(_)
+            | DeviceModel::Image(_) => None,
             DeviceModel::Block(disk) => Some(disk),
+        }
+    }
+
+    /// The disk over the image that it is, if it is one.
+    pub fn image_disk(&self) -> Option<BlockDevice>
+        ensures { result ≡ image_of (state_of self.now) }
+    {
+        match self {
+            DeviceModel::Entropy(_)
+            | DeviceModel::Network(_)
+            | DeviceModel::Block(_)
+            | DeviceModel::Console(_) => None,
+            DeviceModel::Image(disk) => Some(*disk),
         }
     }
 
@@ -141,7 +164,10 @@ impl<A: Allocator> DeviceModel<A> {
         ensures { result ≡ is_at_work (state_of self.now) }
     {
         match self {
-            DeviceModel::Entropy(_) | DeviceModel::Network(_) | DeviceModel::Console(_) => false,
+            DeviceModel::Entropy(_)
+            | DeviceModel::Network(_)
+            | DeviceModel::Console(_)
+            | DeviceModel::Image(_) => false,
             DeviceModel::Block(disk) => disk.is_busy(),
         }
     }
@@ -173,7 +199,10 @@ impl<A: Allocator> DeviceModel<A> {
         ensures held { IsHeld mem.new window.new (state_of self.new) }
     {
         match self {
-            DeviceModel::Entropy(_) | DeviceModel::Network(_) | DeviceModel::Console(_) => None,
+            DeviceModel::Entropy(_)
+            | DeviceModel::Network(_)
+            | DeviceModel::Console(_)
+            | DeviceModel::Image(_) => None,
             DeviceModel::Block(disk) => Some(disk.tell(said, mem, window, room)),
         }
     }

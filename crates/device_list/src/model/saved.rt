@@ -15,7 +15,7 @@ impl<A: Allocator> DeviceModel<A> {
     {
         match self {
             DeviceModel::Network(_) => 1,
-            DeviceModel::Block(_) => 2,
+            DeviceModel::Block(_) | DeviceModel::Image(_) => 2,
             DeviceModel::Console(_) => 3,
             DeviceModel::Entropy(_) => 4,
         }
@@ -26,7 +26,10 @@ impl<A: Allocator> DeviceModel<A> {
         ensures { result ≡ mac_of (state_of self.now) }
     {
         match self {
-            DeviceModel::Entropy(_) | DeviceModel::Block(_) | DeviceModel::Console(_) => [0; 6],
+            DeviceModel::Entropy(_)
+            | DeviceModel::Block(_)
+            | DeviceModel::Console(_)
+            | DeviceModel::Image(_) => [0; 6],
             DeviceModel::Network(card) => card.configuration().mac,
         }
     }
@@ -36,7 +39,10 @@ impl<A: Allocator> DeviceModel<A> {
         ensures { result ≡ mtu_of (state_of self.now) }
     {
         match self {
-            DeviceModel::Entropy(_) | DeviceModel::Block(_) | DeviceModel::Console(_) => 0,
+            DeviceModel::Entropy(_)
+            | DeviceModel::Block(_)
+            | DeviceModel::Console(_)
+            | DeviceModel::Image(_) => 0,
             DeviceModel::Network(card) => card.configuration().mtu,
         }
     }
@@ -48,6 +54,7 @@ impl<A: Allocator> DeviceModel<A> {
         match self {
             DeviceModel::Entropy(_) | DeviceModel::Network(_) | DeviceModel::Console(_) => 0,
             DeviceModel::Block(disk) => disk.device().extent.count,
+            DeviceModel::Image(disk) => disk.extent.count,
         }
     }
 
@@ -58,6 +65,7 @@ impl<A: Allocator> DeviceModel<A> {
         match self {
             DeviceModel::Entropy(_) | DeviceModel::Network(_) | DeviceModel::Console(_) => [0; 20],
             DeviceModel::Block(disk) => disk.device().identity,
+            DeviceModel::Image(disk) => disk.identity,
         }
     }
 }

@@ -47,9 +47,9 @@ impl<A: Allocator + Copy> Session<A> {
     }
 
     /// A guest's write of a further device's window (4.2.2). A queue that it notifies is served to its end, or until the budget
-    /// is spent: then more is to come, and `go_on` goes on with it. A look at a disk's queue is never cut, and operations of it
-    /// may begin. It is refused for a bad slot or device, while a service of the slot is paused, and where it is one of a
-    /// disk's Status or QueueReady while something of that is in flight.
+    /// is spent: then more is to come, and `go_on` goes on with it. So is one of a disk over the image; a look at the queue of a
+    /// disk that the host serves is never cut, and operations of it may begin. It is refused for a bad slot or device, while a
+    /// service of the slot is paused, and where it is one of such a disk's Status or QueueReady while something of it is in flight.
     pub fn write_device(
         &mut self,
         slot: u8,

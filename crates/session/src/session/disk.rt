@@ -3,7 +3,7 @@
 ghost use Rattle.std.specs.Prelude.{◌≡◌, ◌≢◌, ◌↔◌, ◌≤◌, None, get_or, length, IfOk, IfSome, IsErrOf, IsSome, IsSomeAnd};
 ghost use Rattle.std.specs.List.{slice_get};
 ghost use Rattle.std.specs.Option.{option_map};
-ghost use Rattle.block_device.specs.Flights.{runs_in};
+ghost use Rattle.block_device.specs.Tags.{runs_in};
 ghost use Rattle.block_device.specs.Operation.{LiesInside};
 ghost use Rattle.board.specs.declared.event.EventKind.{EventKind};
 ghost use Rattle.block_device.specs.declared.operation.HostEvent.{HostEvent};

@@ -4,6 +4,7 @@ use Rattle.std.proofs.lemmas.List.{take_all}
 use Rattle.std.proofs.lemmas.List.Elements.{All-more}
 use Rattle.board.specs.declared.spec.SlotSpec.{SlotSpec}
 use Rattle.guest_memory.specs.Faults.{AreGood as AreGoodRegions, IsRefusedAt}
+use Rattle.block_device.specs.declared.extent.Extent.{Extent}
 use Rattle.board.specs.Extent.{IsApart}
 use Rattle.board.specs.Fault.{share}
 use Rattle.board.proofs.check.slot.Goals as goal
@@ -29,4 +30,5 @@ loop-other-preserved c =
     All-more beside c.args.earlier.now c.loop-other.other-index c.other-item.result c.loop-other-test.true
     c.loop-other.invariant
     (subst beside c.other-item.is
-    (rw (← c.share.ensures, ← c.share-in-loop-other.ensures) (c.if-overlap.ensures.apart)))
+    (subst (λ (e : Extent). IsApart e (share c.args.spec.now)) c.share.ensures
+    (subst (λ (e : Extent). IsApart c.share.result e) c.share-in-loop-other.ensures c.if-overlap.ensures.apart)))

@@ -6,7 +6,7 @@ use Rattle.session.proofs.plugging.plug_all.Goals as goal
 
 pub loop-device-init : goal.loop-device-init
 loop-device-init g c = (
-  begun c.args.devices.now c.args.slot c.args.board.now.slots c.requires.bare,
+  begun c.args.devices.now c.args.slot c.args.board.now.slots c.requires.bare c.requires.image_disks,
   c.requires.judged,
   refl,
 )
@@ -23,7 +23,7 @@ pub plug_one-requires : goal.plug_one-requires
 plug_one-requires g c =
     takes c.args.devices.now c.args.slot c.loop-device.device-index c.args.board.now.slots c.loop-device.board.slots
     c.loop-device.invariant.0 c.in-Some.spec (omega arith)
-    (good_place _ _ c.in-Some.spec (next g c) c.loop-device.invariant.1).0
+    (good_place _ _ c.in-Some.spec (next g c) c.loop-device.invariant.1).0 (next g c)
 
 pub loop-device-preserved : goal.loop-device-preserved
 loop-device-preserved g c =

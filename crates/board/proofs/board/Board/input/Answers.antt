@@ -11,14 +11,14 @@ use Rattle.board.proofs.board.Board.input.Goals as goal
 
 pub invariant_of-self-2 : goal.invariant_of-self-2
 invariant_of-self-2 g c =
-    sound_set _ c.self.inside.slots.items c.args.slot c.in-Some.found.now c.begin_in_place-turn.new.self
-    c.begin_in_place-turn.ensures.extent
+    sound_set _ c.self.inside.slots.items c.args.slot c.in-Some.found.now c.input-turn.new.self
+    c.input-turn.ensures.place
     (is_there c.self.inside.slots.items c.args.slot c.in-Some.found c.in-Some.ensures.item) c.self.invariant
 
 pub unreachable-requires-in_default-reply : goal.unreachable-requires-in_default-reply
 unreachable-requires-in_default-reply g c =
-    let is = typed_whole c.args.bytes.now c.in-Some.found.now c.begin_in_place-turn.new.self c.begin_in_place-turn.result
-    c.begin_in_place-turn.ensures in
+    let is = typed_whole c.args.bytes.now c.in-Some.found.now c.input-turn.new.self c.input-turn.result
+    c.input-turn.ensures in
     let said : Answered c.in-Answered.reply ≡ Answered (Took (fitting c.in-Some.found.now.pending c.args.bytes.now)) =
     sym c.in-Answered.is ∙ is in
     c.in_default-reply.not-Took (fitting c.in-Some.found.now.pending c.args.bytes.now) (cc (said))
@@ -27,42 +27,42 @@ pub returns-clause-step : goal.returns-clause-step
 returns-clause-step g c =
     let slots = c.self.inside.slots.items in
     let taken = Took c.in-Took.taken in
-    (leaves_quietly g.I.Image.disk slots c.self.inside.cache c.args.slot c.in-Some.found c.begin_in_place-turn.new.self
+    (leaves_quietly g.I.Image.disk slots c.self.inside.cache c.args.slot c.in-Some.found c.input-turn.new.self
     (Input c.args.bytes.now) taken c.args.self.now (g.met.I.Image.whole c.self.inside.cache) c.self.invariant
     c.in-Some.ensures.item c.self.view_is
-    (whole_quietly c.in-Some.found.now c.begin_in_place-turn.new.self (Input c.args.bytes.now) _
-    c.begin_in_place-turn.result taken (c.in-Answered.is ∙ ap (λ r. Answered r) c.in-Took.is)
-    c.begin_in_place-turn.ensures)).step
+    (whole_quietly c.in-Some.found.now c.input-turn.new.self (Input c.args.bytes.now) _
+    c.input-turn.result taken (c.in-Answered.is ∙ ap (λ r. Answered r) c.in-Took.is)
+    c.input-turn.ensures)).step
 
 pub returns-clause-others : goal.returns-clause-others
 returns-clause-others g c =
     let slots = c.self.inside.slots.items in
     let taken = Took c.in-Took.taken in
-    (leaves_quietly g.I.Image.disk slots c.self.inside.cache c.args.slot c.in-Some.found c.begin_in_place-turn.new.self
+    (leaves_quietly g.I.Image.disk slots c.self.inside.cache c.args.slot c.in-Some.found c.input-turn.new.self
     (Input c.args.bytes.now) taken c.args.self.now (g.met.I.Image.whole c.self.inside.cache) c.self.invariant
     c.in-Some.ensures.item c.self.view_is
-    (whole_quietly c.in-Some.found.now c.begin_in_place-turn.new.self (Input c.args.bytes.now) _
-    c.begin_in_place-turn.result taken (c.in-Answered.is ∙ ap (λ r. Answered r) c.in-Took.is)
-    c.begin_in_place-turn.ensures)).others
+    (whole_quietly c.in-Some.found.now c.input-turn.new.self (Input c.args.bytes.now) _
+    c.input-turn.result taken (c.in-Answered.is ∙ ap (λ r. Answered r) c.in-Took.is)
+    c.input-turn.ensures)).others
 
 pub returns-clause-extents : goal.returns-clause-extents
 returns-clause-extents g c =
     let slots = c.self.inside.slots.items in
     let taken = Took c.in-Took.taken in
-    (leaves_quietly g.I.Image.disk slots c.self.inside.cache c.args.slot c.in-Some.found c.begin_in_place-turn.new.self
+    (leaves_quietly g.I.Image.disk slots c.self.inside.cache c.args.slot c.in-Some.found c.input-turn.new.self
     (Input c.args.bytes.now) taken c.args.self.now (g.met.I.Image.whole c.self.inside.cache) c.self.invariant
     c.in-Some.ensures.item c.self.view_is
-    (whole_quietly c.in-Some.found.now c.begin_in_place-turn.new.self (Input c.args.bytes.now) _
-    c.begin_in_place-turn.result taken (c.in-Answered.is ∙ ap (λ r. Answered r) c.in-Took.is)
-    c.begin_in_place-turn.ensures)).extents
+    (whole_quietly c.in-Some.found.now c.input-turn.new.self (Input c.args.bytes.now) _
+    c.input-turn.result taken (c.in-Answered.is ∙ ap (λ r. Answered r) c.in-Took.is)
+    c.input-turn.ensures)).extents
 
 pub returns-clause-disturbed : goal.returns-clause-disturbed
 returns-clause-disturbed g c =
     let slots = c.self.inside.slots.items in
     let taken = Took c.in-Took.taken in
-    (leaves_quietly g.I.Image.disk slots c.self.inside.cache c.args.slot c.in-Some.found c.begin_in_place-turn.new.self
+    (leaves_quietly g.I.Image.disk slots c.self.inside.cache c.args.slot c.in-Some.found c.input-turn.new.self
     (Input c.args.bytes.now) taken c.args.self.now (g.met.I.Image.whole c.self.inside.cache) c.self.invariant
     c.in-Some.ensures.item c.self.view_is
-    (whole_quietly c.in-Some.found.now c.begin_in_place-turn.new.self (Input c.args.bytes.now) _
-    c.begin_in_place-turn.result taken (c.in-Answered.is ∙ ap (λ r. Answered r) c.in-Took.is)
-    c.begin_in_place-turn.ensures)).disturbed
+    (whole_quietly c.in-Some.found.now c.input-turn.new.self (Input c.args.bytes.now) _
+    c.input-turn.result taken (c.in-Answered.is ∙ ap (λ r. Answered r) c.in-Took.is)
+    c.input-turn.ensures)).disturbed

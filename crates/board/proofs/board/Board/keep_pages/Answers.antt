@@ -16,7 +16,7 @@ invariant_of-self-2 g c =
     rw (
       c.keep_pages.ensures,
       extents_of-set slots c.args.slot found
-          (with_page_bits found (bits_of c.args.bits.items)) there refl,
+          (with_page_bits found (bits_of c.args.bits.items)) there (refl, refl),
     ) c.self.invariant
 
 pub returns-clause-kept : goal.returns-clause-kept

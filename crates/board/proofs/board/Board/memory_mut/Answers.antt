@@ -36,7 +36,7 @@ invariant_of-self-lent g c w =
     rw (extents_of-set c.self.inside.slots.items c.args.slot c.index_mut-found.result.now
     (with_bytes c.args.addr c.index_mut-found.result.now w)
     (there c.self.inside.slots.items c.args.slot _ c.index_mut-found.result.now c.requires.there
-    (ap (λ b. length b.slots) c.self.view_is) c.index_mut-found.ensures.value) refl)
+    (ap (λ b. length b.slots) c.self.view_is) c.index_mut-found.ensures.value) (refl, refl))
     c.self.invariant
 
 pub returns : goal.returns

@@ -11,7 +11,7 @@ returns-in_default-clause-refused g c =
 
 pub invariant_of-self-2 : goal.invariant_of-self-2
 invariant_of-self-2 g c =
-    sound_set _ c.self.inside.slots.items c.args.slot c.in-Some.found.now c.plug.new.self c.plug.ensures.extent
+    sound_set _ c.self.inside.slots.items c.args.slot c.in-Some.found.now c.plug.new.self c.plug.ensures.place
     (is_there c.self.inside.slots.items c.args.slot c.in-Some.found c.in-Some.ensures.item) c.self.invariant
 
 pub returns-clause-plugged : goal.returns-clause-plugged

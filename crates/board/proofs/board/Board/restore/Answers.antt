@@ -17,7 +17,7 @@ found g c = is_there c.self.inside.slots.items c.args.slot c.in-Some.found c.in-
 pub invariant_of-self-2 : goal.invariant_of-self-2
 invariant_of-self-2 g c =
     sound_set _ c.self.inside.slots.items c.args.slot c.in-Some.found.now c.restore.new.self
-    c.restore.ensures.answers.extent (found g c) c.self.invariant
+    c.restore.ensures.answers.place (found g c) c.self.invariant
 
 -- what is left of the board
 left : (g : _) (c : goal.After-self-2-1 g)

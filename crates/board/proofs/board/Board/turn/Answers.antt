@@ -2,7 +2,7 @@ use Rattle.std.proofs.Common.{◌≡◌, ℕ, List, ◌≤◌, Option, Some, Non
 use Rattle.std.specs.Prelude.{IsSomeAnd, slice_set}
 use Rattle.std.specs.List.{slice_get}
 use Rattle.std.proofs.lemmas.Option.{same_Some}
-use Rattle.board.specs.Slot.{BoardSlot, state_of}
+use Rattle.board.specs.Slot.{BoardSlot, state_of, whole_extent}
 use Rattle.board.specs.Image.{Tells}
 use Rattle.board.specs.Pausing.{MayLackMemoryIn}
 use Rattle.board.specs.World.{disturbed_of}
@@ -40,7 +40,7 @@ pub invariant_of-self-2 : goal.invariant_of-self-2
 invariant_of-self-2 g c =
     rw (
       extents_of-set c.self.inside.slots.items c.args.slot c.in-Some.slot.now c.turn-turn.new.self
-          (there g c) c.turn-turn.ensures.stays.extent,
+          (there g c) c.turn-turn.ensures.stays.place,
       c.turn-turn.ensures.stays.image.outside.sectors,
     )
     c.self.invariant
@@ -50,12 +50,12 @@ returns-clause-takes g c tells below =
     let old = g.I.Image.disk c.self.inside.cache in
     let new = g.I.Image.disk c.turn-turn.new.cache in
     let telling : Tells old = subst (λ b. Tells (g.I.Image.disk b.image)) (sym c.self.view_is) tells in
-    let kept = outside_kept c.in-Some.slot.now.extent old.contents new.contents telling
+    let kept = outside_kept (whole_extent c.in-Some.slot.now) old.contents new.contents telling
     c.turn-turn.ensures.stays.image.outside.contents in
     rw (← c.self.view_is, c.after.ensures.turn)
     (takes _ c.self.inside.slots.items old new c.args.slot c.in-Some.slot.now c.turn-turn.new.self
     c.turn-turn.result _ _ _ _
-    c.self.invariant.apart (there g c) c.turn-turn.ensures.stays.extent c.turn-turn.ensures.noted kept.outside
+    c.self.invariant.apart (there g c) c.turn-turn.ensures.stays.place c.turn-turn.ensures.noted kept.outside
     (c.turn-turn.ensures.serves telling) c.after.ensures.shown)
 
 pub returns-clause-stays : goal.returns-clause-stays

@@ -15,7 +15,7 @@ there g c = is_there c.self.inside.slots.items c.args.slot c.in-Some.slot c.in-S
 pub invariant_of-self-2 : goal.invariant_of-self-2
 invariant_of-self-2 g c =
     sound_set _ c.self.inside.slots.items c.args.slot c.in-Some.slot.now c.put_bytes.new.self
-    c.put_bytes.ensures.extent (there g c) c.self.invariant
+    c.put_bytes.ensures.place (there g c) c.self.invariant
 
 pub returns-clause-step : goal.returns-clause-step
 returns-clause-step g c =

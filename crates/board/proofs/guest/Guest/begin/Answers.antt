@@ -3,13 +3,15 @@ use Rattle.board.specs.Image.{bytes_of, health_of}
 use Rattle.board.specs.Slot.{state_of}
 use Rattle.board.proofs.Blocks.{count_of}
 use Rattle.board.proofs.Hosts.{not_hosted, serves_image}
+use Rattle.board.proofs.Seats.{own_within}
 use Rattle.board.proofs.guest.Guest.begin.Goals as goal
 
 pub returns-then-is_hosted-clause-serves : goal.returns-then-is_hosted-clause-serves
 returns-then-is_hosted-clause-serves g c = λ tells.
     let disk = g.I.Image.disk c.args.cache.now in
     c.begin_hosted-turn.ensures.serves (bytes_of disk) (health_of disk)
-    (count_of c.args.self.now.extent disk tells (g.met.I.Image.whole c.args.cache.now) c.requires.lies)
+    (count_of c.args.self.now.extent disk tells (g.met.I.Image.whole c.args.cache.now)
+    (own_within disk.sector_count c.args.self.now c.requires.lies))
 
 pub returns-clause-serves : goal.returns-clause-serves
 returns-clause-serves g c = λ tells.

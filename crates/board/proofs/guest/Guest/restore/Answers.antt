@@ -1,6 +1,6 @@
 -- While nothing is in flight a restore is what it is over an image.
 use Rattle.std.proofs.Common.{◌≡◌, Option, false, ap, refl, sym, ◌∙◌}
-use Rattle.block_device.specs.Flights.{is_any}
+use Rattle.block_device.specs.Tags.{is_any}
 use Rattle.device_list.specs.List.{are_at_work}
 use Rattle.board.specs.Backing.{HostDisk, tags_in}
 use Rattle.board.specs.Slot.{BoardSlot, is_at_work, state_of}
@@ -21,7 +21,7 @@ returns-then-is_at_work-clause-answers g c = record {
   given = λ image health filled.
       restore_busy g.row.A.Denot (state_of image c.args.self.now) c.args.from.now health
       (sym c.is_at_work.ensures ∙ c.if-is_at_work.true);
-  extent = refl;
+  place = (refl, refl);
   disturbed = refl;
   answered = λ lacks. absurd (cc (lacks));
 }
@@ -38,7 +38,7 @@ returns-clause-answers g c =
           restore_passes _ image slot c.restore.new.self c.args.from.now c.restore.result c.refusal.result health
           both.0 both.1 c.refusal.ensures filled c.restore.ensures.ok c.restore.ensures.fault
           c.restore.ensures.kept;
-      extent = c.restore.ensures.extent;
+      place = c.restore.ensures.place;
       disturbed = c.restore.ensures.disturbed;
       answered = restore_answered _ c.refusal.result;
     })

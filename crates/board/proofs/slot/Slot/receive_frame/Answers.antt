@@ -1,5 +1,12 @@
 use Rattle.board.proofs.FurtherBegins.{receive_begins}
+use Rattle.board.proofs.ImageDisks.{received_none}
 use Rattle.board.proofs.slot.Slot.receive_frame.Goals as goal
+
+pub begin_further-requires : goal.begin_further-requires
+begin_further-requires g c = record {
+  no_image = received_none c.args.device c.args.frame.now c.self.inside.devices c.receive.new.self _ _
+      c.in-Ok.ensures.fits c.in-Ok.ensures.received;
+}
 
 pub returns-in-Ok : goal.returns-in-Ok
 returns-in-Ok g c =

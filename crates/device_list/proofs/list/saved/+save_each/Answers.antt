@@ -3,7 +3,7 @@ use Rattle.device_list.specs.Saved.{saved_devices}
 use Rattle.mmio_window.specs.Saved.{window_restored}
 use Rattle.snapshot.specs.declared.saved.SavedDevice.{SavedDevice}
 use Rattle.device_list.specs.Model.{kind_of}
-use Rattle.device_list.proofs.Saved.{behind_first, restores_more, saved_more}
+use Rattle.device_list.proofs.Saved.{behind_first, restores_more, restores_none, saved_more, saved_none}
 use Rattle.device_list.proofs.list.saved.+save_each.Goals as goal
 
 pub returns-in-len1-up-clause-back : goal.returns-in-len1-up-clause-back
@@ -19,3 +19,10 @@ returns-in-len1-up-clause-value g t c =
     ∙ (ap (λ (out : List SavedDevice). out ++ saved_devices (behind_first c.args.devices.now)) c.push.ensures.items
     ∙ saved_more c.args.out.now.items c.args.devices.now c.device-item.result c.saved.result
     c.in-len1-up.len_at_least c.device-item.is c.saved.ensures.value)
+
+pub returns-in_default-clause-value : goal.returns-in_default-clause-value
+returns-in_default-clause-value g t c =
+    saved_none c.args.out.now.items c.args.devices.now c.in_default.len_below
+
+pub returns-in_default-clause-back : goal.returns-in_default-clause-back
+returns-in_default-clause-back g t c = λ m sound. restores_none m c.args.devices.now c.in_default.len_below

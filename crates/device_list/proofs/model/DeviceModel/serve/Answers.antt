@@ -4,7 +4,7 @@ use Rattle.entropy_device.specs.Device.{entropy}
 use Rattle.device_list.proofs.Cards.{card_keeps}
 use Rattle.device_list.proofs.Terminals.{terminal_keeps}
 use Rattle.device_list.proofs.model.DeviceModel.serve.Goals as goal
-use Rattle.device_list.proofs.model.DeviceModel.serve.Goals.{in-Block-default, in-Console-default, in-Entropy-eq0, in-Entropy-default, in-Network-default}
+use Rattle.device_list.proofs.model.DeviceModel.serve.Goals.{in-Block-default, in-Console-default, in-Entropy-eq0, in-Entropy-default, in-Image-default, in-Network-default}
 
 pub returns-clause-kind : goal.returns-clause-kind
 returns-clause-kind g c =
@@ -22,6 +22,7 @@ returns-clause-kind g c =
           rw (w.window-is)
           ((terminal_keeps c.args.stage c.args.budget _ _ _ c.args.q _ _ _ _
           w.serve-in-Console-default.ensures.serves).kind)
+      | in-Image-default w ↦ rw (w.window-is) refl
     ]
 
 pub returns-clause-offered : goal.returns-clause-offered
@@ -40,4 +41,5 @@ returns-clause-offered g c =
           rw (w.window-is)
           ((terminal_keeps c.args.stage c.args.budget _ _ _ c.args.q _ _ _ _
           w.serve-in-Console-default.ensures.serves).offered)
+      | in-Image-default w ↦ rw (w.window-is) refl
     ]

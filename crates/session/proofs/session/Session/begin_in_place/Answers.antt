@@ -1,8 +1,10 @@
 -- An event that a slice has, of a slot of which nothing is paused, is what the session does.
 use Rattle.std.proofs.Common.{◌<◌, length, Some, sym, ap, ◌∙◌, refl, arith}
+use Rattle.std.proofs.lemmas.List.{length-set}
 use Rattle.board.specs.InPlace.{event_in}
 use Rattle.session.proofs.Access.{found_at}
 use Rattle.session.proofs.Quiet.{Begun, begun}
+use Rattle.session.proofs.Steps.{as_many}
 use Rattle.session.proofs.Unchanged.{missing}
 use Rattle.session.proofs.session.Session.begin_in_place.Goals as goal
 
@@ -31,8 +33,16 @@ told g c =
     waiting.0 waiting.1 c.self.invariant.0
     (rw (← c.self.view_is) at (sym c.waiting.ensures.value ∙ c.in-Some-None.is
     ∙ ap (λ p. Some p) c.in-Some-None.field-0-is))
-    (t.ensures.takes refl (fits g c)) t.ensures.extents t.ensures.others t.ensures.limited t.ensures.answered
+    (t.ensures.takes refl (fits g c)) t.ensures.stays.extents t.ensures.others t.ensures.limited t.ensures.answered
     t.ensures.bad_slot
+
+pub invariant_of-self : goal.invariant_of-self
+invariant_of-self g c =
+    let many = sym (as_many c.self.inside.board.slots c.begin_in_place-taken.new.self.slots
+    c.begin_in_place-taken.ensures.stays.extents) in (
+      c.self.invariant.0 ∙ many,
+      length-set c.self.inside.paused.items c.args.slot c.note-response.new.paused ∙ (c.self.invariant.1 ∙ many),
+    )
 
 pub returns-in-Some-None-clause-call : goal.returns-in-Some-None-clause-call
 returns-in-Some-None-clause-call g c =

@@ -1,6 +1,6 @@
 -- A session is refused by the first fault, and one that isn't there lacked memory where there is none.
 use Rattle.std.proofs.Common.{length, ap, ◌∙◌}
-use Rattle.session.proofs.Refusals.{handed_on, if_err, never_device, never_outlet, never_spent, on_ok, told_device, told_image, told_outlet, told_spent}
+use Rattle.session.proofs.Refusals.{handed_on, if_err, never_device, never_extent, never_outlet, never_spent, on_ok, told_device, told_extent, told_image, told_outlet, told_spent}
 use Rattle.session.proofs.Plugged.{bare_opened, length-plugged}
 use Rattle.session.proofs.session.Session.new.Goals as goal
 
@@ -28,6 +28,12 @@ returns-in_err-judge-clause-bad_device g c =
     c.in_err-judge.field-0.0 (handed_on c.from_residual.result c.in_err-judge.field-0.0
     c.from_residual.ensures.1) (c.in_err-judge.ensures.fault c.args.cache)
 
+pub returns-in_err-judge-clause-bad_extent : goal.returns-in_err-judge-clause-bad_extent
+returns-in_err-judge-clause-bad_extent g c =
+    told_extent c.args.guests.now c.args.image.now c.args.cache c.args.budget c.from_residual.result
+    c.in_err-judge.field-0.0 (handed_on c.from_residual.result c.in_err-judge.field-0.0
+    c.from_residual.ensures.1) (c.in_err-judge.ensures.fault c.args.cache)
+
 pub returns-in_err-judge-clause-spent : goal.returns-in_err-judge-clause-spent
 returns-in_err-judge-clause-spent g c =
     told_spent c.args.guests.now c.args.image.now c.args.cache c.args.budget c.from_residual.result
@@ -39,7 +45,7 @@ of_board-requires g c =
     ap length c.in_ok-board.ensures.slots ∙ length-plugged c.args.guests.now _ ∙ (bare_opened c.args.guests.now).many
 
 pub returns-clause-lasts : goal.returns-clause-lasts
-returns-clause-lasts g c = on_ok c.of_board.result _ c.in_ok-judge.ensures.good.3
+returns-clause-lasts g c = on_ok c.of_board.result _ c.in_ok-judge.ensures.good.4
 
 pub returns-clause-bad_outlet : goal.returns-clause-bad_outlet
 returns-clause-bad_outlet g c = (
@@ -53,10 +59,16 @@ returns-clause-bad_device g c = (
   λ bad. absurd (bad.2 c.in_ok-judge.ensures.good.2),
 )
 
+pub returns-clause-bad_extent : goal.returns-clause-bad_extent
+returns-clause-bad_extent g c = (
+  λ is. absurd (never_extent c.of_board.result c.of_board.ensures.fault is),
+  λ bad. absurd (bad.3 c.in_ok-judge.ensures.good.3),
+)
+
 pub returns-clause-spent : goal.returns-clause-spent
 returns-clause-spent g c = (
   λ is. absurd (never_spent c.of_board.result c.of_board.ensures.fault is),
-  λ bad. absurd (c.in_ok-judge.ensures.good.3 bad.3),
+  λ bad. absurd (c.in_ok-judge.ensures.good.4 bad.4),
 )
 
 pub returns-clause-bad_board : goal.returns-clause-bad_board

@@ -31,7 +31,7 @@ of_board-requires g c =
     ∙ (bare_over c.args.guests.now (map vec_items c.args.bytes.items)).many
 
 pub returns-clause-lasts : goal.returns-clause-lasts
-returns-clause-lasts g c = on_ok c.of_board.result _ c.in_ok-judge.ensures.good.3
+returns-clause-lasts g c = on_ok c.of_board.result _ c.in_ok-judge.ensures.good.4
 
 pub returns-clause-fault : goal.returns-clause-fault
 returns-clause-fault g c =

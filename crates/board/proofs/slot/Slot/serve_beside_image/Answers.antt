@@ -1,7 +1,8 @@
 use Rattle.std.proofs.Common.{refl, sym, ◌∙◌}
 use Rattle.board.specs.Slot.{state_of}
+use Rattle.board.proofs.ImageDisks.{further_piece}
 use Rattle.board.proofs.Turns.{has_bytes, never_lacks, refuses, sends, silent_turn}
-use Rattle.board.proofs.slot.Slot.serve_beside_disk.Goals as goal
+use Rattle.board.proofs.slot.Slot.serve_beside_image.Goals as goal
 
 pub returns-in-Receive-clause-serves : goal.returns-in-Receive-clause-serves
 returns-in-Receive-clause-serves g c = λ image health.
@@ -49,9 +50,11 @@ returns-in-Further-clause-serves g c = λ image health.
     rw (served.ensures.rest, c.turn-in-Further.ensures)
     (silent_turn c.args.pause c.args.stage c.args.budget served.result _ _ _ _
     (g.O.Outlet.bytes c.args.out.now)
-    (rw (c.in-Further.is) (record {
+    (rw (c.in-Further.is)
+    (further_piece c.args.self.now image c.in-Further.device c.in-Further.queue c.args.stage c.args.budget served.result
+    health _ _ (rw (c.in-Further.is) at c.requires.no_image) (record {
       served = served.ensures.served;
       is = refl;
       image = refl;
       silent = refl;
-    })))
+    }))))
