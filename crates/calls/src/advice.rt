@@ -13,8 +13,8 @@ use std::alloc::Allocator;
 use std::fmt::{Display, Formatter};
 use std::{fmt, io};
 use trace::{
-    FaultKind, Field, Format, TraceFault, Version, field_at_fault, fields_after, first_word,
-    format_of, line_of, names_disk,
+    FaultKind, Field, Format, TraceFault, Version, behind_named, field_at_fault, fields_after,
+    first_word, format_of, line_of,
 };
 
 /// One line for a person.
@@ -273,9 +273,9 @@ fn write_fields<W: fmt::Write>(f: &mut Formatter<W>, line: &[u8], format: Format
     let Some(word) = first_word(line) else {
         return write!(f, "found {shown}");
     };
-    let is_disk = names_disk(line);
-    let count = fields_after(format, word, is_disk).len();
-    let (word, example) = example_of(format, word, is_disk);
+    let behind = behind_named(line);
+    let count = fields_after(format, word, behind).len();
+    let (word, example) = example_of(format, word, behind);
     let fields = if count == 1 { "field" } else { "fields" };
     write!(
         f,

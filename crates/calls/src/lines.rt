@@ -3,10 +3,10 @@
 ghost use Rattle.std.specs.Prelude.{◌≡◌};
 ghost use Rattle.trace.specs.Words.{spelled};
 
-use trace::{Field, Format, Version, Word};
+use trace::{BehindKind, Field, Format, Version, Word};
 
-/// A word, and fields after it as they look in a format, those of a further disk where it `is_disk`.
-pub fn example_of(format: Format, word: Word, is_disk: bool) -> (&'static str, &'static str)
+/// A word, and fields after it as they look in a format. Where a kind is among them, these are `behind` it.
+pub fn example_of(format: Format, word: Word, behind: BehindKind) -> (&'static str, &'static str)
     ensures word { result.0.now ≡ spelled word }
 {
     match word {
@@ -23,11 +23,7 @@ pub fn example_of(format: Format, word: Word, is_disk: bool) -> (&'static str, &
         Word::Drop => ("drop", "0"),
         Word::Hold => ("hold", "0"),
         Word::Release => ("release", "0"),
-        Word::Plug if is_disk => (
-            "plug",
-            "0 0 disk 800 rw 6469736b2d310000000000000000000000000000 4",
-        ),
-        Word::Plug => ("plug", "0 0 entropy"),
+        Word::Plug => ("plug", example_of_plug(behind)),
         Word::DeviceRead => ("dr", "0 0 070 4"),
         Word::DeviceWrite => ("dw", "0 0 070 4 0000000f"),
         Word::Supply => ("supply", "0 0 5f0b91c4"),
@@ -40,6 +36,15 @@ pub fn example_of(format: Format, word: Word, is_disk: bool) -> (&'static str, &
         Word::DeviceDrop => ("ddrop", "0 0"),
         Word::DeviceHold => ("dhold", "0 0"),
         Word::DeviceRelease => ("drelease", "0 0"),
+    }
+}
+
+// The fields of a plug.
+fn example_of_plug(behind: BehindKind) -> &'static str {
+    match behind {
+        BehindKind::Nothing => "0 0 entropy",
+        BehindKind::HostedDisk => "0 0 disk 800 rw 6469736b2d310000000000000000000000000000 4",
+        BehindKind::ImageDisk => "0 0 image 0 8 rw 6469736b2d310000000000000000000000000000",
     }
 }
 
@@ -90,13 +95,15 @@ pub fn spelling_of(field: Field) -> Spelling {
         Field::Value => Other(
             "a value is two lower case hexadecimal digits for each byte of its width, as 0000000f of width 4",
         ),
-        Field::Disk => Other("a slot's disk is image, or host:1 to host:40"),
+        Field::Disk => Other(
+            "a slot's disk is image, image+8 by its spare sectors, or host:1 to host:40",
+        ),
         Field::Window => Other("a window is b or c"),
         Field::Width => Other("a width is 1, 2 or 4"),
         Field::Mode => Other("a disk is rw or ro"),
         Field::Verdict => Other("what came of an operation is done or failed"),
         Field::Kind => Other(
-            "a further device is entropy, network:525400123456:5dc by its address and its MTU, console:50:19 by its columns and rows, or disk",
+            "a further device is entropy, network:525400123456:5dc by its address and its MTU, console:50:19 by its columns and rows, disk or image",
         ),
         Field::Link => Other("a link is up or down"),
         Field::Bytes => {

@@ -10,7 +10,8 @@ use Rattle.guest_memory.specs.Memory.{Inside, Memory, is_inside, stored}
 use Rattle.guest_memory.proofs.Ranges.{is_inside-tells}
 use Rattle.board.specs.declared.event.SlotWindow.{SlotWindow}
 use Rattle.sector_cache.specs.Disk.{Disk}
-use Rattle.block_device.specs.Flights.{InFlight, is_any, taken_bits}
+use Rattle.block_device.specs.Flights.{InFlight}
+use Rattle.block_device.specs.Tags.{is_any, taken_bits}
 use Rattle.board.specs.declared.event.Event.{Event}
 use Rattle.board.specs.declared.event.EventKind.{EventKind}
 use Rattle.board.specs.declared.event.EventKind.TheVariants.{Device, MemRead, MemWrite, Read}
@@ -185,7 +186,7 @@ extents_put : (slots new : List BoardSlot) (h : ℕ) (memory : BoardSlot → Mem
     → extents_of new ≡ extents_of slots
 extents_put slots new h memory None here is = absurd is
 extents_put slots new h memory (Some found) here is = ap extents_of is
-    ∙ extents_of-set slots h found (record found { memory = memory found }) here refl
+    ∙ extents_of-set slots h found (record found { memory = memory found }) here (refl, refl)
 
 pub bytes_written : (A : Type 0) {I : Type 0} (disk : I → Disk) (old new : BoardState I) (slot addr : ℕ)
     (bytes : List ℕ) → new.image ≡ old.image

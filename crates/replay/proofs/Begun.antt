@@ -8,7 +8,8 @@ use Rattle.std.proofs.lemmas.List.{get_or-set_other}
 use Rattle.std.proofs.lemmas.List.Concat.{flat_map-append}
 use Rattle.std.proofs.lemmas.Nat.Bits.{bit_at-zero, bit_at_above, bit_at_and, bit_at_not, bit_at_clear_other, bit_at_clear_same, bit_at-trailing_zeros, same_from_bits}
 use Rattle.std.proofs.lemmas.Nat.{and_le_l}
-use Rattle.block_device.specs.Flights.{InFlight, taken_bits}
+use Rattle.block_device.specs.Flights.{InFlight}
+use Rattle.block_device.specs.Tags.{taken_bits}
 use Rattle.block_device.proofs.Bits.{bit_taken as bit_there}
 use Rattle.replay.specs.Asking.{PutsBegun, TakesOne, begun_text, is_nil}
 use Rattle.replay.specs.Telling.{begun_between, begun_by_tag, begun_from, told_by_tag}

@@ -3,7 +3,7 @@ use Rattle.std.proofs.Common.{◌≡◌, ◌≢◌, inl, inr, ℕ, ◌+◌, ◌*
 use Rattle.std.specs.Prelude.{MatchOption}
 use Rattle.std.specs.List.{slice_get}
 use Rattle.std.proofs.lemmas.Bool.Decides.{eqb_tells, nat_tests}
-use Rattle.std.proofs.lemmas.List.{take_all, drop-drop, length-set}
+use Rattle.std.proofs.lemmas.List.{take_all, take-take, drop-drop, drop-take, length-set}
 use Rattle.std.proofs.lemmas.Option.{slice_get_cases}
 use Rattle.sector_cache.specs.Disk.{Disk}
 use Rattle.sector_cache.specs.Sector.{extent_of}
@@ -16,7 +16,7 @@ use Rattle.board.specs.Fault.{share}
 use Rattle.board.specs.Image.{bytes_of}
 use Rattle.board.specs.Line.{HadMemory, IsLine, IsQuiet, IsRun, Move, RunsAlone, events_of, own_events, own_records, records_of}
 use Rattle.board.specs.Machine.{RunsOnItsOwn}
-use Rattle.board.specs.Slot.{BoardSlot, SlotState, opened, state_of}
+use Rattle.board.specs.Slot.{BoardSlot, SlotState, opened, state_of, whole_extent}
 use Rattle.board.specs.World.{MissingStep, SlotStep, Step, World, bad_slot, extents_of, seen}
 use Rattle.board.proofs.Alone.{recorded_slot}
 use Rattle.board.proofs.Outside.{extent_apart}
@@ -124,15 +124,32 @@ told old (move ∷ moves) new one line =
 
 -- ---- a run
 
+-- a run of sectors by its first ones and those behind them
+in_two : (bytes : List ℕ) (start few more : ℕ)
+    → extent_of bytes start (few + more) ≡ extent_of bytes start few ++ extent_of bytes (start + few) more
+in_two bytes start few more =
+    let rest : List ℕ = drop (512 * start) bytes in
+    let all : List ℕ = take (512 * few + 512 * more) rest in
+    let size : 512 * (few + more) ≡ 512 * few + 512 * more = omega arith in
+    let front : take (512 * few) all ≡ take (512 * few) rest =
+    take-take (512 * few) (512 * few + 512 * more) rest (omega arith) in
+    let back : drop (512 * few) all ≡ extent_of bytes (start + few) more =
+    drop-take (512 * few) (512 * more) rest
+    ∙ ap (take (512 * more)) (drop-drop (512 * few) (512 * start) bytes ∙ ap (λ k. drop k bytes) (omega arith)) in
+    ap (λ k. take k rest) size ∙ sym (take-append-drop (512 * few) all)
+    ∙ ap (λ xs. xs ++ drop (512 * few) all) front ∙ ap (λ xs. take (512 * few) rest ++ xs) back
+
 -- the one slot that is left of a board of one
 last_state : (last : List BoardSlot) (bytes : List ℕ) (extent : Extent) (state : SlotState)
     → extents_of last ≡ extent ∷ [] → slice_get (map (state_of bytes) last) 0 ≡ Some state
-    → extent_of bytes extent.start extent.count ≡ state.extent
+    → extent_of bytes extent.start extent.count ≡ state.extent ++ state.spare_bytes
 last_state [] bytes extent state there is = absurd cc
 last_state (slot ∷ slots) bytes extent state there is =
-    let place : slot.extent ≡ extent = cc there in
+    let place : whole_extent slot ≡ extent = cc there in
     let first : state_of bytes slot ≡ state = cc is in
-    ap (λ (e : Extent). extent_of bytes e.start e.count) (sym place) ∙ ap (λ (s : SlotState). s.extent) first
+    ap (λ (e : Extent). extent_of bytes e.start e.count) (sym place)
+    ∙ in_two bytes slot.extent.start slot.extent.count slot.spare
+    ∙ ap (λ (s : SlotState). s.extent ++ s.spare_bytes) first
 
 pub one_slot : {A : Type 0} (spec : SlotSpec) (old new : Disk) (last : List BoardSlot)
     (events : List (Event A)) (records : List (Record A))

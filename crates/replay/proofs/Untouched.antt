@@ -2,27 +2,27 @@
 use Rattle.std.proofs.Common.{◌≡◌, ℕ, suc, ◌+◌, ◌/◌, true, false, All, List, [], ◌∷◌, map, refl, sym, ap, ◌∙◌, arith}
 use Rattle.std.proofs.lemmas.Bool.Decides.{nat_tests}
 use Rattle.std.specs.List.{list_any}
-use Rattle.block_device.specs.declared.extent.Extent.{Extent}
 use Rattle.board.specs.declared.spec.Backing.{Backing}
 use Rattle.board.specs.declared.spec.Backing.TheVariants.{Image, Host}
 use Rattle.board.specs.declared.spec.SlotSpec.{SlotSpec}
 use Rattle.board.specs.Extent.{has_sector, outside_from, outside_of}
-use Rattle.board.specs.Slot.{BoardSlot, extent_by, opened}
+use Rattle.board.specs.Fault.{share}
+use Rattle.board.specs.Slot.{BoardSlot, opened}
 use Rattle.board.specs.World.{extents_of}
 use Rattle.trace.specs.Asked.{is_host}
 
 -- whatever the host has lies in no sector
-no_sector : (backing : Backing) (extent : Extent) (sector : ℕ) → is_host backing ≡ true
-    → has_sector (extent_by backing extent) sector ≡ false
-no_sector (Host depth) extent sector is = grind (arith, nat_tests)
-no_sector Image extent sector is = absurd cc
+no_sector : (spec : SlotSpec) (backing : Backing) (sector : ℕ) → spec.backing ≡ backing → is_host backing ≡ true
+    → has_sector (share spec) sector ≡ false
+no_sector spec (Host depth) sector same is = rw same (grind (arith, nat_tests))
+no_sector spec Image sector same is = absurd cc
 
 no_sectors : (slots : List SlotSpec) (sector : ℕ) → All (λ spec. is_host spec.backing ≡ true) slots
     → list_any (λ extent. has_sector extent sector) (extents_of (map opened slots)) ≡ false
 no_sectors [] sector all = refl
 no_sectors (spec ∷ slots) sector all =
     rw (
-      no_sector spec.backing spec.extent sector (all 0 spec (omega arith)),
+      no_sector spec spec.backing sector refl (all 0 spec (omega arith)),
       no_sectors slots sector (λ k d lt. all (suc k) d (omega (arith, lt))),
     ) refl
 

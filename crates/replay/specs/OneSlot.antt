@@ -27,12 +27,12 @@ with_extent bytes extent new = take (512 * extent.start) bytes
     ++ (new ++ drop (512 * (extent.start + extent.count)) bytes)
 
 -- The board of this one slot did what the machine does with the events of slot 0: the records are the
--- machine's, with those of slots that aren't there among them, and the image holds the machine's extent, if the
--- slot has one of it, within the bytes that stood around it.
+-- machine's, with those of slots that aren't there among them, and the image holds the machine's extent and spare
+-- sectors, if the slot has some of it, within the bytes that stood around them.
 pub record IsMachine {A : Type 0} (spec : SlotSpec) (before after : List ℕ) (events : List (Event A))
     (records : List (Record A)) : Type 0 where
   pub own : List (Record A)
   pub last : SlotState
   pub ran : RunsOnItsOwn 0 (machine spec before) (own_events 0 events) own last
   pub told : records ≡ with_missing events own
-  pub image : after ≡ with_extent before (share spec) last.extent
+  pub image : after ≡ with_extent before (share spec) (last.extent ++ last.spare_bytes)

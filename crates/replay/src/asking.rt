@@ -6,7 +6,8 @@
 
 ghost use Rattle.std.specs.Prelude.{◌≡◌, ◌≢◌, ◌++◌, ◌∷◌, [], true, false, List, Option, None, Some, get_or, if◌then◌else◌, is_none, set};
 ghost use Rattle.std.specs.List.{slice_get};
-ghost use Rattle.block_device.specs.Flights.{InFlight, taken_bits};
+ghost use Rattle.block_device.specs.Flights.{InFlight};
+ghost use Rattle.block_device.specs.Tags.{taken_bits};
 ghost use Rattle.board.specs.Hosting.{tag_in};
 ghost use Rattle.replay.specs.Asking.{PutsBegun, TakesOne, begun_text, further_from};
 ghost use Rattle.replay.specs.Running.{further_tags, tags_of};

@@ -137,7 +137,9 @@ fn say_outcome(
         return;
     };
     match (served.device, served.queue, &seen.request) {
-        (DeviceName::Block, _, Some(request)) => say_request(text, mem, request),
+        (DeviceName::Block | DeviceName::Further(_), _, Some(request)) => {
+            say_request(text, mem, request);
+        }
         (DeviceName::Console, 0, _) => say_received(text, mem, chain, used.len),
         _ => {
             text.say("    transmits ");

@@ -280,6 +280,10 @@ fn say_slot(text: &mut Text, number: u64, slot: &SlotSpec) {
     say_regions(text, slot.regions.as_slice());
     text.say(", ");
     say_disk(text, slot.extent, slot.backing, slot.read_only);
+    if slot.spare > 0 {
+        text.say(", ");
+        text.counted(slot.spare, "spare sector");
+    }
     text.say(", console ");
     text.count(u64::from(slot.cols));
     text.say(" by ");
@@ -304,7 +308,7 @@ fn served_of(board: &Watched, event: &Event) -> Option<SlotQueue> {
     let at = named_by(board, event)?;
     let is_told = match at.device {
         DeviceName::Block | DeviceName::Console => true,
-        DeviceName::Further(_) => board.is_hosted(at),
+        DeviceName::Further(_) => board.is_hosted(at) || board.image_disk(at).is_some(),
     };
     if is_told && is_ready(board, at) && serves(board, at, &event.what) {
         Some(at)

@@ -96,7 +96,21 @@ impl Watched {
         match at.device {
             DeviceName::Block => self.board.block_device(at.slot),
             DeviceName::Console => None,
-            DeviceName::Further(_) => Some(*self.further_disk(at)?.device()),
+            DeviceName::Further(_) => match self.further_disk(at) {
+                Some(disk) => Some(*disk.device()),
+                None => self.image_disk(at),
+            },
+        }
+    }
+
+    /// The further disk over the image that a queue is of, if it is of one.
+    pub fn image_disk(&self, at: SlotQueue) -> Option<BlockDevice> {
+        match at.device {
+            DeviceName::Further(number) => {
+                let device = self.board.device(at.slot, number)?;
+                device.model().image_disk()
+            }
+            _ => None,
         }
     }
 
@@ -243,7 +257,7 @@ impl Watched {
         &[]
     }
 
-    // The further disk that a queue is of, if it is of one.
+    // The further disk that a queue is of, if it is of one that the host serves.
     fn further_disk(&self, at: SlotQueue) -> Option<&HostedDisk> {
         match at.device {
             DeviceName::Further(number) => self.board.disk(at.slot, number),

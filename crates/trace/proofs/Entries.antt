@@ -1,5 +1,5 @@
 -- The line of a slot, of an event and of the cache: its word, and fields that say what they have to.
-use Rattle.std.proofs.Common.{◌≡◌, ◌≢◌, ℕ, suc, ◌+◌, ◌*◌, ◌^◌, ◌<◌, ◌≤◌, Bool, true, false, cond, eqb, length, List, [], ◌∷◌, ◌++◌, All, drop, get_or, map, refl, sym, ap, subst, ◌∙◌, arith, MatchBool}
+use Rattle.std.proofs.Common.{◌≡◌, ◌≢◌, ℕ, zero, suc, ◌+◌, ◌*◌, ◌^◌, ◌<◌, ◌≤◌, Bool, true, false, cond, eqb, length, List, [], ◌∷◌, ◌++◌, All, drop, get_or, map, refl, sym, ap, subst, ◌∙◌, arith, MatchBool}
 use Rattle.std.specs.Prelude.{⊤, codes}
 use Rattle.block_device.specs.declared.operation.Verdict.{Verdict}
 use Rattle.block_device.specs.declared.operation.Verdict.TheVariants.{Done, Failed}
@@ -134,10 +134,14 @@ above_regions (r ∷ (s ∷ rs)) =
     above_append 32 (region_text r) (44 ∷ regions_text (s ∷ rs)) (above_region r)
     (omega arith, above_regions (s ∷ rs))
 
-a_disk : (backing : Backing) → DiskInRange backing → Stands ByDisk (disk backing)
-a_disk Image fits = ((Image, record { fits = tt; spelled = refl }), above_tested 32 (disk Image) refl)
-a_disk (Host depth) fits = (
-  (Host depth, record { fits = fits; spelled = refl }),
+a_disk : (backing : Backing) (spare : ℕ) → DiskInRange backing spare → Stands ByDisk (disk backing spare)
+a_disk Image zero fits = ((Image, (0, record { fits = fits; spelled = refl })), above_tested 32 (codes "image") refl)
+a_disk Image (suc n) fits = (
+  (Image, (suc n, record { fits = fits; spelled = refl })),
+  above_append 32 (codes "image+") (num (suc n)) (above_tested 32 (codes "image+") refl) (above_num (suc n)),
+)
+a_disk (Host depth) spare fits = (
+  (Host depth, (spare, record { fits = fits; spelled = refl })),
   above_append 32 (codes "host:") (num depth) (above_tested 32 (codes "host:") refl) (above_num depth),
 )
 
@@ -188,6 +192,10 @@ a_kind spec.Entropy fits = (
 a_kind (spec.Block sectors read_only identity depth) fits = (
   (spec.Block sectors read_only identity depth, record { fits = fits; spelled = refl }),
   above_tested 32 (codes "disk") refl,
+)
+a_kind (spec.Image extent read_only identity) fits = (
+  (spec.Image extent read_only identity, record { fits = fits; spelled = refl }),
+  above_tested 32 (codes "image") refl,
 )
 a_kind (spec.Network mac mtu) fits = (
   (spec.Network mac mtu, record { fits = fits; spelled = refl }),
@@ -271,10 +279,13 @@ memory_stands (Plain version) width (r ∷ []) fits few one = let h = fits 0 r (
 memory_stands (Plain version) width (r ∷ (s ∷ rs)) fits few one = absurd (omega (arith, one))
 
 -- who has its disk, where a format says so
-disk_stands : (format : Format) (width : List ℕ) (backing : Backing) → DiskInRange backing
-    → EachStands (map (shape_of width) (disk_in format)) (disk_fields format backing)
-disk_stands (Plain version) width backing fits = tt
-disk_stands Extended width backing fits = (a_disk backing fits, tt)
+disk_stands : (format : Format) (width : List ℕ) (s : SlotSpec) → IsFineSlot format s
+    → EachStands (map (shape_of width) (disk_in format)) (disk_fields format s.backing s.spare)
+disk_stands (Plain version) width s h = tt
+disk_stands Extended width s h =
+    let fits : DiskInRange s.backing s.spare =
+    record { depth = h.fits.depth; wide = h.fits.spare; beside = h.printable.disk } in
+    (a_disk s.backing s.spare fits, tt)
 
 -- what stands behind that
 abbrev pub behind : Format → SlotSpec → List (List ℕ)
@@ -282,7 +293,7 @@ behind format s = num s.extent.start ∷ num s.extent.count ∷ mode s.read_only
     ∷ unless_version_1 format (bytes s.identity ∷ [])
 
 abbrev slot_rest : Format → SlotSpec → List (List ℕ)
-slot_rest format s = memory_fields format s.regions ++ (disk_fields format s.backing ++ behind format s)
+slot_rest format s = memory_fields format s.regions ++ (disk_fields format s.backing s.spare ++ behind format s)
 
 slot_stands : (format : Format) (s : SlotSpec) → IsFineSlot format s
     → EachStands (shapes format Slot (slot_rest format s)) (slot_rest format s)
@@ -290,10 +301,10 @@ slot_stands format s h =
     let width = width_among (slot_rest format s) in
     let fits = h.fits in
     stand_both (shape_of width) (memory_in format) (disk_in format ++ behind_disk format)
-    (memory_fields format s.regions) (disk_fields format s.backing ++ behind format s)
+    (memory_fields format s.regions) (disk_fields format s.backing s.spare ++ behind format s)
     (memory_stands format width s.regions fits.regions fits.few h.printable.memory)
-    (stand_both (shape_of width) (disk_in format) (behind_disk format) (disk_fields format s.backing)
-    (behind format s) (disk_stands format width s.backing fits.disk) (
+    (stand_both (shape_of width) (disk_in format) (behind_disk format) (disk_fields format s.backing s.spare)
+    (behind format s) (disk_stands format width s h) (
       a_number 64 s.extent.start fits.start,
       (
         a_number 64 s.extent.count fits.count,
@@ -396,6 +407,22 @@ plug_stands format slot n (spec.Block sectors read_only identity depth) lt of ra
         (
           a_mode read_only,
           (an_identity identity range.each range.twenty, (a_number 8 depth range.deep, tt)),
+        ),
+      ),
+    ),
+  ),
+)
+plug_stands format slot n (spec.Image extent read_only identity) lt of range = (
+  a_number 8 slot lt,
+  (
+    a_number 8 n of,
+    (
+      a_kind (spec.Image extent read_only identity) range,
+      (
+        a_number 64 extent.start range.start,
+        (
+          a_number 64 extent.count range.count,
+          (a_mode read_only, (an_identity identity range.each range.twenty, tt)),
         ),
       ),
     ),

@@ -10,10 +10,11 @@ use Rattle.trace.specs.declared.fault.FaultKind.TheVariants as kind
 use Rattle.trace.specs.Refusals.{RefusesFields}
 use Rattle.trace.specs.Faults.{AllSay, IsAtFault, fault_of, first_field, order, other_fields}
 use Rattle.trace.specs.declared.table.Field.{Field}
+use Rattle.trace.specs.declared.table.BehindKind.{BehindKind}
 use Rattle.trace.specs.declared.format.Format.{Format}
 use Rattle.trace.specs.declared.word.Word.{Word}
 use Rattle.trace.specs.Cuts.{fields_of}
-use Rattle.trace.specs.Words.{AllRight, AreRight, Says, Shape, Num, fields_in, is_disk_kind, kind_among, shape_of, shapes, spelled, width_among}
+use Rattle.trace.specs.Words.{AllRight, AreRight, Says, Shape, Num, behind_word, fields_in, kind_among, shape_of, shapes, spelled, width_among}
 use Rattle.trace.proofs.Entries.{one_way, same_word}
 use Rattle.trace.proofs.FaultKinds.{same_kind}
 
@@ -106,31 +107,31 @@ module _ (kind : FaultKind) (width : List ℕ) where
 
 -- the fields after the word of a line
 module _ (kind : FaultKind) (format : Format) (line : List ℕ) (row : List Field) (width : List ℕ)
-    (is_disk : Bool) (first : List ℕ) (fields : List (List ℕ)) (word : Word) where
+    (behind : BehindKind) (first : List ℕ) (fields : List (List ℕ)) (word : Word) where
   row_is : (w : Word) → first_field line ≡ spelled word → fields_of line ≡ first ∷ fields
-      → width ≡ slice_index_or fields 3 [] → is_disk ≡ is_disk_kind (kind_among fields) → row ≡ fields_in format word is_disk → first_field line ≡ spelled w
+      → width ≡ slice_index_or fields 3 [] → behind ≡ behind_word (kind_among fields) → row ≡ fields_in format word behind → first_field line ≡ spelled w
       → (map (shape_of width) row ≡ shapes format w (other_fields line)) × (fields ≡ other_fields line)
-  row_is w is cut by disk table parsed =
+  row_is w is cut by told table parsed =
       let same : w ≡ word = same_word w word (sym parsed ∙ is) in
       let others : fields ≡ other_fields line = sym (ap (drop 1) cut) in (
         ap (λ (x : List ℕ). map (shape_of x) row) (by
             ∙ ap (λ (fs : List (List ℕ)). slice_index_or fs 3 []) others)
             ∙ ap (λ (fs : List Field). map (shape_of (width_among (other_fields line))) fs) (table
-            ∙ ap (fields_in format word) (disk
-            ∙ ap (λ (fs : List (List ℕ)). is_disk_kind (kind_among fs)) others))
+            ∙ ap (fields_in format word) (told
+            ∙ ap (λ (fs : List (List ℕ)). behind_word (kind_among fs)) others))
             ∙ ap (λ (v : Word). shapes format v (other_fields line)) (sym same),
         others,
       )
 
   pub some_in : (found : Option (Field × Bor (List ℕ))) → first_field line ≡ spelled word
-      → fields_of line ≡ first ∷ fields → width ≡ slice_index_or fields 3 [] → is_disk ≡ is_disk_kind (kind_among fields) → row ≡ fields_in format word is_disk
+      → fields_of line ≡ first ∷ fields → width ≡ slice_index_or fields 3 [] → behind ≡ behind_word (kind_among fields) → row ≡ fields_in format word behind
       → IfSome found (λ f. IsAtFault kind (map (shape_of width) row) fields (shape_of width f.0) f.1.now)
       → IfSome found (λ f. (w : Word) → first_field line ≡ spelled w
       → IsAtFault kind (shapes format w (other_fields line)) (other_fields line)
       (shape_of (width_among (other_fields line)) f.0) f.1.now)
-  some_in None is cut by disk table found = tt
-  some_in (Some f) is cut by disk table found = λ w parsed.
-      let same = row_is w is cut by disk table parsed in
+  some_in None is cut by told table found = tt
+  some_in (Some f) is cut by told table found = λ w parsed.
+      let same = row_is w is cut by told table parsed in
       let wide : width ≡ width_among (other_fields line) = by
       ∙ ap (λ (fs : List (List ℕ)). slice_index_or fs 3 []) same.1 in
       subst (λ (x : List ℕ). IsAtFault kind (shapes format w (other_fields line)) (other_fields line)
@@ -140,11 +141,11 @@ module _ (kind : FaultKind) (format : Format) (line : List ℕ) (row : List Fiel
       (subst (λ (ss : List Shape). IsAtFault kind ss fields (shape_of width f.0) f.1.now) same.0 found))
 
   pub none_in : first_field line ≡ spelled word → fields_of line ≡ first ∷ fields
-      → width ≡ slice_index_or fields 3 [] → is_disk ≡ is_disk_kind (kind_among fields) → row ≡ fields_in format word is_disk
+      → width ≡ slice_index_or fields 3 [] → behind ≡ behind_word (kind_among fields) → row ≡ fields_in format word behind
       → AllSay kind (map (shape_of width) row) fields → (w : Word) → first_field line ≡ spelled w
       → AllSay kind (shapes format w (other_fields line)) (other_fields line)
-  none_in is cut by disk table say = λ w parsed.
-      let same = row_is w is cut by disk table parsed in
+  none_in is cut by told table say = λ w parsed.
+      let same = row_is w is cut by told table parsed in
       subst (λ (fs : List (List ℕ)). AllSay kind (shapes format w (other_fields line)) fs) same.1
       (subst (λ (ss : List Shape). AllSay kind ss fields) same.0 say)
 
@@ -203,11 +204,11 @@ all_right (s ∷ ss) (f ∷ fs) many n c b =
 
 -- the fields after a word, which aren't right
 module _ (format : Format) (word : Word) (row : List Field) (width : List ℕ) (fields : List (List ℕ))
-    (is_disk : Bool) (by : width ≡ slice_index_or fields 3 []) (disk : is_disk ≡ is_disk_kind (kind_among fields))
-    (table : row ≡ fields_in format word is_disk) where
+    (behind : BehindKind) (by : width ≡ slice_index_or fields 3 []) (told : behind ≡ behind_word (kind_among fields))
+    (table : row ≡ fields_in format word behind) where
   shapes_are : map (shape_of width) row ≡ shapes format word fields
   shapes_are = ap (λ (x : List ℕ). map (shape_of x) row) by
-      ∙ ap (λ (fs : List Field). map (shape_of (width_among fields)) fs) (table ∙ ap (fields_in format word) disk)
+      ∙ ap (λ (fs : List Field). map (shape_of (width_among fields)) fs) (table ∙ ap (fields_in format word) told)
 
   all_of : (kind : FaultKind) → AllSay kind (map (shape_of width) row) fields
       → AllSay kind (shapes format word fields) fields

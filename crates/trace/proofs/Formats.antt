@@ -2,6 +2,7 @@
 use Rattle.std.proofs.Common.{◌≡◌, ℕ, ◌≤◌, List, get_or, map, refl, arith}
 use Rattle.board.specs.declared.spec.SlotSpec.{SlotSpec}
 use Rattle.board.specs.declared.spec.Backing.{Backing}
+use Rattle.board.specs.declared.spec.Backing.TheVariants.{Image, Host}
 use Rattle.trace.specs.declared.format.Format.{Format}
 use Rattle.trace.specs.declared.format.Format.TheVariants.{Plain, Extended}
 use Rattle.trace.specs.declared.format.Version.{Version}
@@ -11,7 +12,7 @@ use Rattle.trace.specs.declared.word.Word.TheVariants.{Restore, Complete, Drop, 
 use Rattle.trace.specs.Format.{GoesInto, if_extended, unless_version_1}
 use Rattle.trace.specs.Printable.{IsPrintable, IsPrintableDisk, IsPrintableMemory, IsPrintableSlot}
 use Rattle.trace.specs.Text.{Content, as_format, word_for}
-use Rattle.trace.specs.Words.{IsWordOf}
+use Rattle.trace.specs.Words.{IsWordOf, StandsBeside}
 
 -- each of what all but version 1 have
 pub map_unless_version_1 : {X Y : Type 0} (f : X → Y) (format : Format) (xs : List X)
@@ -99,16 +100,26 @@ memory_goes : (old new : Format) (count : ℕ) → GoesInto old new → IsPrinta
 memory_goes old new count goes h =
     goes_by (λ (f : Format). IsPrintableMemory f count) old new goes (some_regions old count) (λ v w one. one) h
 
-disk_goes : (old new : Format) (backing : Backing) → GoesInto old new → IsPrintableDisk old backing
-    → IsPrintableDisk new backing
-disk_goes old new backing goes h =
-    goes_by (λ (f : Format). IsPrintableDisk f backing) old new goes (λ _. tt) (λ v w image. image) h
+beside_image : (backing : Backing) (spare : ℕ) → backing ≡ Image → StandsBeside backing spare
+beside_image Image spare is = tt
+beside_image (Host depth) spare is = absurd cc
+
+disk_wide : (old : Format) (backing : Backing) (spare : ℕ) → IsPrintableDisk old backing spare
+    → StandsBeside backing spare
+disk_wide (Plain version) backing spare h = beside_image backing spare h.0
+disk_wide Extended backing spare h = h
+
+disk_goes : (old new : Format) (backing : Backing) (spare : ℕ) → GoesInto old new
+    → IsPrintableDisk old backing spare → IsPrintableDisk new backing spare
+disk_goes old new backing spare goes h =
+    goes_by (λ (f : Format). IsPrintableDisk f backing spare) old new goes (disk_wide old backing spare)
+    (λ v w image. image) h
 
 slot_goes : (old new : Format) (s : SlotSpec) → GoesInto old new → IsPrintableSlot old s
     → IsPrintableSlot new s
 slot_goes old new s goes h = record {
   memory = memory_goes old new _ goes h.memory;
-  disk = disk_goes old new s.backing goes h.disk;
+  disk = disk_goes old new s.backing s.spare goes h.disk;
   identity = λ is. h.identity (first_is_1 old new goes is);
 }
 

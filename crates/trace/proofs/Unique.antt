@@ -1,5 +1,5 @@
 -- A text belongs to one trace, and the text of a trace has no fault.
-use Rattle.std.proofs.Common.{◌≡◌, ℕ, suc, ◌+◌, ◌*◌, ◌-◌, ◌^◌, ◌<◌, ◌≤◌, Bool, true, false, List, [], ◌∷◌, ◌++◌, All, length, get_or, drop, take, map, Result, Ok, refl, sym, ap, subst, ◌∙◌, arith, inl, inr}
+use Rattle.std.proofs.Common.{◌≡◌, ℕ, zero, suc, ◌+◌, ◌*◌, ◌-◌, ◌^◌, ◌<◌, ◌≤◌, Bool, true, false, List, [], ◌∷◌, ◌++◌, All, length, get_or, drop, take, map, Result, Ok, refl, sym, ap, subst, ◌∙◌, arith, inl, inr}
 use Rattle.std.proofs.lemmas.List.{append_cancel_right, append-nil, drop_at, get_or_past, take_at}
 use Rattle.std.specs.List.{flat_map}
 use Rattle.std.specs.Prelude.{⊤}
@@ -23,6 +23,7 @@ use Rattle.device_list.specs.declared.spec.DeviceSpec.TheVariants as spec
 use Rattle.board.specs.declared.spec.Backing.{Backing}
 use Rattle.board.specs.declared.spec.Backing.TheVariants.{Image, Host}
 use Rattle.board.specs.declared.spec.SlotSpec.{SlotSpec}
+use Rattle.block_device.specs.declared.extent.Extent.{Extent}
 use Rattle.guest_memory.specs.declared.spec.RegionSpec.{RegionSpec}
 use Rattle.trace.specs.declared.format.Format.{Format}
 use Rattle.trace.specs.declared.format.Format.TheVariants.{Plain, Extended}
@@ -37,7 +38,7 @@ use Rattle.trace.specs.Refusals.{IsFine, IsFineSlot}
 use Rattle.hexadecimal.specs.Spelling.{bytes, fixed, num}
 use Rattle.trace.specs.Spelling.{card, device_kind, spec_fields, disk, link_state, mode, region_text, verdict, window}
 use Rattle.trace.specs.Text.{Content, cache_line, device_fields, disk_fields, event_fields, event_line, memory_fields, region_fields, slot_fields, slot_line, text, trace_lines, host_fields, what_fields, word_for}
-use Rattle.trace.specs.Words.{CardInRange, SpecInRange, spelled}
+use Rattle.trace.specs.Words.{CardInRange, SpecInRange, StandsBeside, spelled}
 use Rattle.hexadecimal.proofs.ByteFields.{AreBytes, is_bytes}
 use Rattle.trace.proofs.FaultKinds.{same_kind}
 use Rattle.trace.proofs.Entries.{behind, cut_cache, cut_event, cut_slot, entered_event, entered_slot, fits_digits, same_word}
@@ -99,11 +100,12 @@ same_list P f one xs ys hx hy e = absurd cc
 
 -- ---- lines
 
-made_slot : List RegionSpec → ℕ → ℕ → Backing → Bool → ℕ → ℕ → List ℕ → SlotSpec
-made_slot regions start count backing read_only cols rows identity =
+made_slot : List RegionSpec → ℕ → ℕ → ℕ → Backing → Bool → ℕ → ℕ → List ℕ → SlotSpec
+made_slot regions start count spare backing read_only cols rows identity =
     record {
       regions = regions;
       extent = record { start = start; count = count };
+      spare = spare;
       backing = backing;
       read_only = read_only;
       cols = cols;
@@ -111,11 +113,11 @@ made_slot regions start count backing read_only cols rows identity =
       identity = identity;
     }
 
-same_slot : (rs ss : List RegionSpec) (a b c d : ℕ) (i j : Backing) (p q : Bool) (k l m n : ℕ) (xs ys : List ℕ)
-    → rs ≡ ss → a ≡ b → c ≡ d → i ≡ j → p ≡ q → k ≡ l → m ≡ n → xs ≡ ys
-    → made_slot rs a c i p k m xs ≡ made_slot ss b d j q l n ys
-same_slot rs ss a b c d i j p q k l m n xs ys regions start count backing read_only cols rows identity =
-    rw (regions, start, count, backing, read_only, cols, rows, identity) refl
+same_slot : (rs ss : List RegionSpec) (a b c d e f : ℕ) (i j : Backing) (p q : Bool) (k l m n : ℕ) (xs ys : List ℕ)
+    → rs ≡ ss → a ≡ b → c ≡ d → e ≡ f → i ≡ j → p ≡ q → k ≡ l → m ≡ n → xs ≡ ys
+    → made_slot rs a c e i p k m xs ≡ made_slot ss b d f j q l n ys
+same_slot rs ss a b c d e f i j p q k l m n xs ys regions start count spare backing read_only cols rows identity =
+    rw (regions, start, count, spare, backing, read_only, cols, rows, identity) refl
 
 -- lists with equally long fronts
 same_halves : (xs ys ls rs : List (List ℕ)) → length xs ≡ length ys → xs ++ ls ≡ ys ++ rs
@@ -168,16 +170,38 @@ equally_long (Plain version) (r ∷ []) (s ∷ (q ∷ ss)) hr hs = absurd (omega
 equally_long (Plain version) (r ∷ []) (s ∷ []) hr hs = refl
 
 -- who has the disks of slots of one format, and what stands behind that
-same_backing : (b c : Backing) → disk b ≡ disk c → b ≡ c
-same_backing Image Image e = refl
-same_backing (Host depth) (Host other) e = ap Host (same_num depth other (ap (drop 5) e))
-same_backing b c e = absurd (omega (arith, ap (λ (xs : List ℕ). get_or xs 0 0) e))
+same_spare : (m n : ℕ) → disk Image m ≡ disk Image n → m ≡ n
+same_spare zero zero e = refl
+same_spare (suc m) (suc n) e = same_num (suc m) (suc n) (ap (drop 6) e)
+same_spare zero (suc n) e = absurd (omega (arith, ap (λ (xs : List ℕ). get_or xs 5 0) e))
+same_spare (suc m) zero e = absurd (omega (arith, ap (λ (xs : List ℕ). get_or xs 5 0) e))
+
+-- an image's field begins with another byte than a host's
+image_first : (spare : ℕ) → get_or (disk Image spare) 0 0 ≡ 105
+image_first zero = refl
+image_first (suc n) = refl
+
+same_backing : (b c : Backing) (m n : ℕ) → StandsBeside b m → StandsBeside c n → disk b m ≡ disk c n
+    → (b ≡ c) × (m ≡ n)
+same_backing Image Image m n hm hn e = (refl, same_spare m n e)
+same_backing (Host depth) (Host other) m n hm hn e =
+    (ap Host (same_num depth other (ap (drop 5) e)), hm ∙ sym hn)
+same_backing Image (Host other) m n hm hn e =
+    absurd (omega (arith, image_first m, ap (λ (xs : List ℕ). get_or xs 0 0) e))
+same_backing (Host depth) Image m n hm hn e =
+    absurd (omega (arith, image_first n, ap (λ (xs : List ℕ). get_or xs 0 0) e))
 
 same_disk : (format : Format) (s t : SlotSpec) → IsFineSlot format s → IsFineSlot format t
-    → disk_fields format s.backing ++ behind format s ≡ disk_fields format t.backing ++ behind format t
-    → (s.backing ≡ t.backing) × (behind format s ≡ behind format t)
-same_disk (Plain version) s t fs ft e = (fs.printable.disk ∙ sym ft.printable.disk, e)
-same_disk Extended s t fs ft e = (same_backing s.backing t.backing (same_at e 0), ap (drop 1) e)
+    → disk_fields format s.backing s.spare ++ behind format s ≡ disk_fields format t.backing t.spare ++ behind format t
+    → ((s.backing ≡ t.backing) × (s.spare ≡ t.spare)) × (behind format s ≡ behind format t)
+same_disk (Plain version) s t fs ft e =
+    let one = fs.printable.disk in
+    let other = ft.printable.disk in
+    ((one.0 ∙ sym other.0, one.1 ∙ sym other.1), e)
+same_disk Extended s t fs ft e = (
+  same_backing s.backing t.backing s.spare t.spare fs.printable.disk ft.printable.disk (same_at e 0),
+  ap (drop 1) e,
+)
 
 -- the identities of slots of one format
 same_identity : (format : Format) (s t : SlotSpec) → IsFineSlot format s → IsFineSlot format t
@@ -194,7 +218,7 @@ unfolding made_slot
 same_slot_fields format s t fs ft e =
     let long = equally_long format s.regions t.regions fs.printable.memory ft.printable.memory in
     let halves = same_halves (memory_fields format s.regions) (memory_fields format t.regions)
-    (disk_fields format s.backing ++ behind format s) (disk_fields format t.backing ++ behind format t)
+    (disk_fields format s.backing s.spare ++ behind format s) (disk_fields format t.backing t.spare ++ behind format t)
     long (ap (drop 1) e) in
     let disks = same_disk format s t fs ft halves.1 in
     let regions = same_memory format s.regions t.regions fs.printable.memory ft.printable.memory halves.0 in
@@ -204,9 +228,9 @@ same_slot_fields format s t fs ft e =
     let cols = same_num s.cols t.cols (same_at disks.1 3) in
     let rows = same_num s.rows t.rows (same_at disks.1 4) in
     let identity = same_identity format s t fs ft disks.1 in
-    same_slot s.regions t.regions s.extent.start t.extent.start s.extent.count t.extent.count s.backing t.backing
-    s.read_only t.read_only s.cols t.cols s.rows t.rows s.identity t.identity regions start count disks.0
-    read_only cols rows identity
+    same_slot s.regions t.regions s.extent.start t.extent.start s.extent.count t.extent.count s.spare t.spare
+    s.backing t.backing s.read_only t.read_only s.cols t.cols s.rows t.rows s.identity t.identity regions start count
+    disks.0.1 disks.0.0 read_only cols rows identity
 
 -- the first three bytes of the first field, which differ for each event's word
 sign : List (List ℕ) → ℕ
@@ -260,6 +284,11 @@ same_card xs ys m n hx hy e =
     sym (drop_at (bytes xs) (58 ∷ num m) 12 lx) ∙ ap (drop 12) e ∙ drop_at (bytes ys) (58 ∷ num n) 12 ly in
     (same_bytes xs ys hx.each hy.each front, same_num m n (ap (drop 1) back))
 
+one_extent : (a b : Extent) → a.start ≡ b.start → a.count ≡ b.count → a ≡ b
+one_extent a b start count =
+    ap (λ (n : ℕ). record { start = n; count = a.count }) start
+    ∙ ap (λ (n : ℕ). record { start = b.start; count = n }) count
+
 same_spec : (a b : DeviceSpec) → SpecInRange a → SpecInRange b
     → device_kind a ∷ spec_fields a ≡ device_kind b ∷ spec_fields b → a ≡ b
 same_spec spec.Entropy spec.Entropy ra rb e = refl
@@ -271,6 +300,11 @@ same_spec (spec.Block s r xs d) (spec.Block t q ys f) ra rb e =
     let read_only = same_mode r q (same_at e 2) in
     let identity = same_bytes xs ys ra.each rb.each (same_at e 3) in
     let depth = same_num d f (same_at e 4) in
+    cc
+same_spec (spec.Image a r xs) (spec.Image b q ys) ra rb e =
+    let extent = one_extent a b (same_num a.start b.start (same_at e 1)) (same_num a.count b.count (same_at e 2)) in
+    let read_only = same_mode r q (same_at e 3) in
+    let identity = same_bytes xs ys ra.each rb.each (same_at e 4) in
     cc
 same_spec (spec.Console c r) (spec.Console d s) ra rb e =
     let both = same_pair 58 c r d s colon (ap (drop 8) (same_at e 0)) in

@@ -1,11 +1,13 @@
 -- The values of a line's fields, read one after another.
-use Rattle.std.proofs.Common.{◌≡◌, ◌≢◌, ℕ, ◌+◌, ◌^◌, ◌<◌, ◌≤◌, Bool, true, false, List, [], ◌∷◌, ◌++◌, length, get_or, map, take, drop, slice_index_or, refl, sym, ap, subst, ◌∙◌, arith}
+use Rattle.std.proofs.Common.{◌≡◌, ◌≢◌, ℕ, ◌+◌, ◌^◌, ◌<◌, ◌≤◌, List, [], ◌∷◌, ◌++◌, length, get_or, map, take, drop, slice_index_or, refl, sym, ap, subst, ◌∙◌, arith}
 use Rattle.std.proofs.lemmas.List.{append-nil, append_assoc, drop_all, drop_more, length-map, map-append, map_more, take_all}
 use Rattle.trace.specs.declared.format.Format.{Format}
 use Rattle.trace.specs.declared.format.Format.TheVariants.{Plain, Extended}
 use Rattle.trace.specs.declared.format.Version.TheVariants.{One, Two}
 use Rattle.trace.specs.declared.table.Field.{Field}
 use Rattle.trace.specs.declared.table.Field.TheVariants.{Sectors}
+use Rattle.trace.specs.declared.table.BehindKind.{BehindKind}
+use Rattle.trace.specs.declared.table.BehindKind.TheVariants.{Nothing, HostedDisk, ImageDisk}
 use Rattle.trace.specs.declared.value.FieldValue.{FieldValue}
 use Rattle.trace.specs.declared.value.FieldValue.TheVariants as value
 use Rattle.trace.specs.declared.word.Word.{Word}
@@ -13,9 +15,9 @@ use Rattle.trace.specs.declared.word.Word.TheVariants.{Slot, Write, Plug, Device
 use Rattle.trace.specs.Printable.{IsWriteAccess}
 use Rattle.device_list.specs.declared.spec.DeviceSpec.{DeviceSpec}
 use Rattle.device_list.specs.declared.spec.DeviceSpec.TheVariants as spec
-use Rattle.trace.specs.Spelling.{device_kind, is_disk, value_text}
+use Rattle.trace.specs.Spelling.{behind_of, device_kind, value_text}
 use Rattle.trace.specs.Values.{AreOf, IsOf, SaysValue, SayValues}
-use Rattle.trace.specs.Words.{AllRight, AreRight, HasValueField, Num, Offset, Says, Shape, Value, Width, Window, Kind, SpecInRange, behind_kind, fields_in, is_disk_kind, kind_among, shape_of, shapes, width_among}
+use Rattle.trace.specs.Words.{AllRight, AreRight, HasValueField, Num, Offset, Says, Shape, Value, Width, Window, Kind, SpecInRange, behind_kind, behind_word, fields_in, kind_among, shape_of, shapes, width_among}
 use Rattle.trace.proofs.Widths.{digits_bound, num_width}
 
 -- ---- the values so far
@@ -95,28 +97,30 @@ module _ (f : Field → Shape) (row : List Field) (vs : List FieldValue) (i : �
 -- ---- over the table
 
 -- a slot has at most eight fields
-slot_row_few : (format : Format) (b : Bool) → length (fields_in format Slot b) ≤ 8
+slot_row_few : (format : Format) (b : BehindKind) → length (fields_in format Slot b) ≤ 8
 slot_row_few (Plain One) b = omega arith
 slot_row_few (Plain Two) b = omega arith
 slot_row_few Extended b = omega arith
 
 -- and what is to be plugged in
-plug_row_few : (format : Format) (b : Bool) → length (fields_in format Plug b) ≤ 8
-plug_row_few format true = omega arith
-plug_row_few format false = omega arith
+plug_row_few : (format : Format) (b : BehindKind) → length (fields_in format Plug b) ≤ 8
+plug_row_few format Nothing = omega arith
+plug_row_few format HostedDisk = omega arith
+plug_row_few format ImageDisk = omega arith
 
 -- none of them is read by a width
-slot_row_alike : (format : Format) (b : Bool) (v w : List ℕ)
+slot_row_alike : (format : Format) (b : BehindKind) (v w : List ℕ)
     → map (shape_of v) (fields_in format Slot b) ≡ map (shape_of w) (fields_in format Slot b)
 slot_row_alike (Plain One) b v w = refl
 slot_row_alike (Plain Two) b v w = refl
 slot_row_alike Extended b v w = refl
 
-pub behind_kind_alike : (b : Bool) (v w : List ℕ) → map (shape_of v) (behind_kind b) ≡ map (shape_of w) (behind_kind b)
-behind_kind_alike true v w = refl
-behind_kind_alike false v w = refl
+pub behind_kind_alike : (b : BehindKind) (v w : List ℕ) → map (shape_of v) (behind_kind b) ≡ map (shape_of w) (behind_kind b)
+behind_kind_alike Nothing v w = refl
+behind_kind_alike HostedDisk v w = refl
+behind_kind_alike ImageDisk v w = refl
 
-pub at_most_eight : (format : Format) (word : Word) (b : Bool) → length (fields_in format word b) ≤ 8
+pub at_most_eight : (format : Format) (word : Word) (b : BehindKind) → length (fields_in format word b) ≤ 8
 at_most_eight format Slot b = slot_row_few format b
 at_most_eight format Plug b = plug_row_few format b
 at_most_eight format word b = omega arith
@@ -124,11 +128,11 @@ at_most_eight format word b = omega arith
 -- only a write's shapes depend on a width
 pub shapes_by : (format : Format) (word : Word) (width : List ℕ) (fields : List (List ℕ))
     → (HasValueField word → width ≡ width_among fields)
-    → map (shape_of width) (fields_in format word (is_disk_kind (kind_among fields))) ≡ shapes format word fields
+    → map (shape_of width) (fields_in format word (behind_word (kind_among fields))) ≡ shapes format word fields
 shapes_by format Slot width fields same =
-    slot_row_alike format (is_disk_kind (kind_among fields)) width (width_among fields)
+    slot_row_alike format (behind_word (kind_among fields)) width (width_among fields)
 shapes_by format Plug width fields same = ap (λ (ss : List Shape). Num 8 ∷ Num 8 ∷ Kind ∷ ss)
-    (behind_kind_alike (is_disk_kind (kind_among fields)) width (width_among fields))
+    (behind_kind_alike (behind_word (kind_among fields)) width (width_among fields))
 shapes_by format Write width fields same =
     ap (λ (by : List ℕ). Num 8 ∷ Window ∷ Offset ∷ Width ∷ Value by ∷ []) (same tt)
 shapes_by format DeviceWrite width fields same =
@@ -195,14 +199,15 @@ written shape vs h =
 
 -- ---- a plug
 
--- a kind is that of a disk where it is spelled so
-pub kind_disk : (kind : DeviceSpec) → is_disk_kind (device_kind kind) ≡ is_disk kind
-kind_disk spec.Entropy = refl
-kind_disk (spec.Network mac mtu) = refl
-kind_disk (spec.Console cols rows) = refl
-kind_disk (spec.Block sectors read_only identity depth) = refl
+-- what stands behind a kind is told by its spelling
+pub kind_behind : (kind : DeviceSpec) → behind_word (device_kind kind) ≡ behind_of kind
+kind_behind spec.Entropy = refl
+kind_behind (spec.Network mac mtu) = refl
+kind_behind (spec.Console cols rows) = refl
+kind_behind (spec.Block sectors read_only identity depth) = refl
+kind_behind (spec.Image extent read_only identity) = refl
 
--- its values, of which those behind the kind are a disk's where the kind is one
+-- its values, of which those behind the kind are what stands there
 pub record IsPlug (vs : List FieldValue) : Type 0 where
   pub slot : ℕ
   pub number : ℕ
@@ -212,7 +217,7 @@ pub record IsPlug (vs : List FieldValue) : Type 0 where
   pub small : slot < 2 ^ 8
   pub few : number < 2 ^ 8
   pub fits : SpecInRange kind
-  pub rest : AreOf (map (shape_of []) (behind_kind (is_disk kind))) behind
+  pub rest : AreOf (map (shape_of []) (behind_kind (behind_of kind))) behind
 
 pub plugged : (vs : List FieldValue) → AreOf (shapes Extended Plug (map value_text vs)) vs → IsPlug vs
 plugged vs h =
@@ -225,8 +230,8 @@ plugged vs h =
     h.2.0 ∙ ap (λ (xs : List FieldValue). h.0 ∷ xs) (t0.2.0
     ∙ ap (λ (xs : List FieldValue). t0.0 ∷ xs) t1.2.0) ∙ rw (slot.1.0, number.1.0, kind.1.0) refl
     in
-    let disk : is_disk_kind (kind_among (map value_text vs)) ≡ is_disk kind.0 =
-    ap (λ (xs : List FieldValue). is_disk_kind (kind_among (map value_text xs))) are ∙ kind_disk kind.0
+    let told : behind_word (kind_among (map value_text vs)) ≡ behind_of kind.0 =
+    ap (λ (xs : List FieldValue). behind_word (kind_among (map value_text xs))) are ∙ kind_behind kind.0
     in
     record {
       slot = slot.0;
@@ -238,6 +243,6 @@ plugged vs h =
       few = number.1.1;
       fits = kind.1.1;
       rest = subst (λ (ss : List Shape). AreOf ss t1.1)
-          (behind_kind_alike (is_disk_kind (kind_among (map value_text vs))) (width_among (map value_text vs)) []
-          ∙ ap (λ (b : Bool). map (shape_of []) (behind_kind b)) disk) t1.2.1.1;
+          (behind_kind_alike (behind_word (kind_among (map value_text vs))) (width_among (map value_text vs)) []
+          ∙ ap (λ (b : BehindKind). map (shape_of []) (behind_kind b)) told) t1.2.1.1;
     }

@@ -15,7 +15,7 @@ use Rattle.trace.specs.declared.format.Format.TheVariants.{Plain, Extended}
 use Rattle.trace.specs.declared.format.Version.TheVariants.{One}
 use Rattle.trace.specs.Text.{Content, word_for}
 use Rattle.trace.specs.Format.{identity_in_version_1}
-use Rattle.trace.specs.Words.{DiskInRange, IsWidth, IsWordOf, RegionInRange, SizeInRange, SpecInRange}
+use Rattle.trace.specs.Words.{DepthInRange, IsWidth, IsWordOf, RegionInRange, SizeInRange, SpecInRange, StandsBeside}
 
 -- an access to a register that has a spelling: its offset has three digits, and its width is 1, 2 or 4
 pub record IsAccess (offset width : ℕ) : Type 0 where
@@ -50,15 +50,15 @@ abbrev pub IsPrintableMemory : Format → ℕ → Type 0
 IsPrintableMemory (Plain version) count = count ≡ 1
 IsPrintableMemory Extended count = 1 ≤ count
 
--- a disk that has a spelling in a format: in a plain one it is on the image
-abbrev pub IsPrintableDisk : Format → Backing → Type 0
-IsPrintableDisk (Plain version) backing = backing ≡ Image
-IsPrintableDisk Extended backing = ⊤
+-- a disk, and so many spare sectors, that have a spelling in a format: in a plain one it is on the image, and there are none
+abbrev pub IsPrintableDisk : Format → Backing → ℕ → Type 0
+IsPrintableDisk (Plain version) backing spare = (backing ≡ Image) × (spare ≡ 0)
+IsPrintableDisk Extended backing spare = StandsBeside backing spare
 
 -- a slot that has a line in a format; version 1 leaves its identity out
 pub record IsPrintableSlot (format : Format) (s : SlotSpec) : Type 0 where
   pub memory : IsPrintableMemory format (length s.regions)
-  pub disk : IsPrintableDisk format s.backing
+  pub disk : IsPrintableDisk format s.backing s.spare
   pub identity : format ≡ Plain One → s.identity ≡ identity_in_version_1
 
 -- a trace that has a text: each of its slots and events has a line, and each line's word is of its format
@@ -74,7 +74,8 @@ pub record SlotInRange (s : SlotSpec) : Type 0 where
   pub few : length s.regions ≤ 8
   pub start : s.extent.start < 2 ^ 64
   pub count : s.extent.count < 2 ^ 64
-  pub disk : DiskInRange s.backing
+  pub spare : s.spare < 2 ^ 64
+  pub depth : DepthInRange s.backing
   pub cols : s.cols < 2 ^ 16
   pub rows : s.rows < 2 ^ 16
   pub identity : All (λ b. b < 2 ^ 8) s.identity

@@ -1,5 +1,5 @@
 -- How each field of a trace and of the records is spelled, as a list of ASCII bytes.
-use Rattle.std.specs.Prelude.{ℕ, ◌+◌, ◌*◌, Bool, true, false, List, [], ◌∷◌, ◌++◌, codes, map}
+use Rattle.std.specs.Prelude.{ℕ, zero, suc, ◌+◌, ◌*◌, Bool, true, false, List, [], ◌∷◌, ◌++◌, codes, map}
 use Rattle.std.specs.List.{join_with_byte}
 use Rattle.guest_memory.specs.declared.spec.RegionSpec.{RegionSpec}
 use Rattle.board.specs.declared.spec.Backing.{Backing}
@@ -14,6 +14,8 @@ use Rattle.device_list.specs.declared.spec.DeviceSpec.TheVariants as spec
 use Rattle.trace.specs.declared.print.line.LineFields.{LineFields}
 use Rattle.trace.specs.declared.table.Field.{Field}
 use Rattle.trace.specs.declared.table.Field.TheVariants as field
+use Rattle.trace.specs.declared.table.BehindKind.{BehindKind}
+use Rattle.trace.specs.declared.table.BehindKind.TheVariants.{Nothing, HostedDisk, ImageDisk}
 use Rattle.trace.specs.declared.value.FieldValue.{FieldValue}
 use Rattle.trace.specs.declared.value.FieldValue.TheVariants.{Number, Disk, Mode, Window, Offset, Width, Value, Identity, Verdict, Kind, Link, Spelled}
 
@@ -30,10 +32,12 @@ abbrev pub window : SlotWindow → List ℕ
 window Block = codes "b"
 window Console = codes "c"
 
--- who has a slot's disk; of a disk that the host serves, how many operations may be in flight
-abbrev pub disk : Backing → List ℕ
-disk Image = codes "image"
-disk (Host depth) = codes "host:" ++ num depth
+-- who has a slot's disk, and how many spare sectors of the image the slot has, where it has some; of a disk that the host
+-- serves, how many operations may be in flight
+abbrev pub disk : Backing → ℕ → List ℕ
+disk Image zero = codes "image"
+disk Image (suc more) = codes "image+" ++ num (suc more)
+disk (Host depth) spare = codes "host:" ++ num depth
 
 -- whether a slot is read-only
 abbrev pub mode : Bool → List ℕ
@@ -59,21 +63,27 @@ device_kind spec.Entropy = codes "entropy"
 device_kind (spec.Network mac mtu) = codes "network:" ++ card mac mtu
 device_kind (spec.Block sectors read_only identity depth) = codes "disk"
 device_kind (spec.Console cols rows) = codes "console:" ++ console cols rows
+device_kind (spec.Image extent read_only identity) = codes "image"
 
-abbrev pub is_disk : DeviceSpec → Bool
-is_disk spec.Entropy = false
-is_disk (spec.Network mac mtu) = false
-is_disk (spec.Block sectors read_only identity depth) = true
-is_disk (spec.Console cols rows) = false
+-- what those say
+abbrev pub behind_of : DeviceSpec → BehindKind
+behind_of spec.Entropy = Nothing
+behind_of (spec.Network mac mtu) = Nothing
+behind_of (spec.Block sectors read_only identity depth) = HostedDisk
+behind_of (spec.Console cols rows) = Nothing
+behind_of (spec.Image extent read_only identity) = ImageDisk
 
--- those of a disk: how many sectors it has, whether it is read-only, its identity, and how many operations may be in
--- flight
+-- those of a disk that the host serves: how many sectors it has, whether it is read-only, its identity, and how many
+-- operations may be in flight; those of one over the image: the first of its sectors and how many, whether it is read-only,
+-- and its identity
 abbrev pub spec_fields : DeviceSpec → List (List ℕ)
 spec_fields spec.Entropy = []
 spec_fields (spec.Network mac mtu) = []
 spec_fields (spec.Console cols rows) = []
 spec_fields (spec.Block sectors read_only identity depth) =
     num sectors ∷ mode read_only ∷ bytes identity ∷ num depth ∷ []
+spec_fields (spec.Image extent read_only identity) =
+    num extent.start ∷ num extent.count ∷ mode read_only ∷ bytes identity ∷ []
 
 -- whether the link of a network card is up
 abbrev pub link_state : Bool → List ℕ
@@ -87,7 +97,7 @@ width_digit width = (48 + width) ∷ []
 -- the value of a field, by its kind
 abbrev pub value_text : FieldValue → List ℕ
 value_text (Number n) = num n
-value_text (Disk backing) = disk backing
+value_text (Disk backing spare) = disk backing spare
 value_text (Mode read_only) = mode read_only
 value_text (Window kind) = window kind
 value_text (Offset offset) = fixed 3 offset
@@ -105,7 +115,7 @@ field_text says field.Sectors = num says.sectors
 field_text says field.Base = num says.base
 field_text says field.Size = num says.size
 field_text says field.Regions = regions_text says.regions.now
-field_text says field.Disk = disk says.backing
+field_text says field.Disk = disk says.backing says.spare
 field_text says field.Start = num says.start
 field_text says field.Count = num says.count
 field_text says field.Mode = mode says.read_only

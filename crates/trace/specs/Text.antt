@@ -55,14 +55,14 @@ abbrev pub memory_fields : Format → List RegionSpec → List (List ℕ)
 memory_fields (Plain version) regions = flat_map region_fields regions
 memory_fields Extended regions = regions_text regions ∷ []
 
--- who has its disk, where a format says so
-abbrev pub disk_fields : Format → Backing → List (List ℕ)
-disk_fields format backing = if_extended format (disk backing ∷ [])
+-- who has its disk, and how many spare sectors it has, where a format says so
+abbrev pub disk_fields : Format → Backing → ℕ → List (List ℕ)
+disk_fields format backing spare = if_extended format (disk backing spare ∷ [])
 
 -- a slot, in a format
 abbrev pub slot_fields : Format → SlotSpec → List (List ℕ)
 slot_fields format s =
-    spelled Slot ∷ (memory_fields format s.regions ++ (disk_fields format s.backing
+    spelled Slot ∷ (memory_fields format s.regions ++ (disk_fields format s.backing s.spare
     ++ (num s.extent.start ∷ num s.extent.count ∷ mode s.read_only ∷ num s.cols ∷ num s.rows
     ∷ unless_version_1 format (bytes s.identity ∷ []))))
 

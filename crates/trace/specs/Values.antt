@@ -14,7 +14,7 @@ use Rattle.trace.specs.Words.{Shape, Num, Regions, Disk, Offset, Window, Width, 
 abbrev pub IsOf : Shape → FieldValue → Type 0
 IsOf (Num bits) v = (n : ℕ) × ((v ≡ value.Number n) × (n < 2 ^ bits))
 IsOf Regions v = (field : Bor (List ℕ)) × ((v ≡ value.Spelled field) × Says Regions field.now)
-IsOf Disk v = (backing : Backing) × ((v ≡ value.Disk backing) × DiskInRange backing)
+IsOf Disk v = (backing : Backing) × ((spare : ℕ) × ((v ≡ value.Disk backing spare) × DiskInRange backing spare))
 IsOf Offset v = (n : ℕ) × ((v ≡ value.Offset n) × (n < 16 ^ 3))
 IsOf Window v = (kind : SlotWindow) × (v ≡ value.Window kind)
 IsOf Width v = (width : ℕ) × ((v ≡ value.Width width) × IsWidth width)

@@ -1,16 +1,20 @@
 -- The table of a trace's lines: the word that each begins with, and what the fields after it say.
-use Rattle.std.specs.Prelude.{◌≡◌, ℕ, ◌*◌, ◌^◌, ◌<◌, ◌≤◌, ◌⊎◌, ⊤, All, Bool, true, false, List, [], ◌∷◌, ◌++◌, bytes_eq, codes, length, map, slice_index_or}
+use Rattle.std.specs.Prelude.{◌≡◌, ℕ, ◌*◌, ◌^◌, ◌<◌, ◌≤◌, ◌⊎◌, ⊤, if◌then◌else◌, All, Bool, List, [], ◌∷◌, ◌++◌, bytes_eq, codes, length, map, slice_index_or}
 use Rattle.guest_memory.specs.declared.spec.RegionSpec.{RegionSpec}
 use Rattle.board.specs.declared.spec.Backing.{Backing}
 use Rattle.board.specs.declared.spec.Backing.TheVariants.{Image, Host}
 use Rattle.board.specs.declared.event.SlotWindow.{SlotWindow}
 use Rattle.device_list.specs.declared.spec.DeviceSpec.{DeviceSpec}
+use Rattle.device_list.specs.declared.spec.DeviceSpec.TheVariants as spec
 use Rattle.device_list.specs.declared.spec.DeviceSpec.TheVariants.{Entropy, Network, Block, Console}
+use Rattle.block_device.specs.declared.extent.Extent.{Extent}
 use Rattle.block_device.specs.declared.operation.Verdict as operation
 use Rattle.trace.specs.declared.format.Format.{Format}
 use Rattle.trace.specs.declared.format.Format.TheVariants.{Plain, Extended}
 use Rattle.trace.specs.declared.table.Field.{Field}
 use Rattle.trace.specs.declared.table.Field.TheVariants as field
+use Rattle.trace.specs.declared.table.BehindKind.{BehindKind}
+use Rattle.trace.specs.declared.table.BehindKind.TheVariants.{Nothing, HostedDisk, ImageDisk}
 use Rattle.trace.specs.declared.word.Word.{Word}
 use Rattle.trace.specs.declared.word.Word.TheVariants.{Cache, Slot, Read, Write, MemRead, MemWrite, Input, Resize, Restore, Complete, Drop, Hold, Release, Plug, DeviceRead, DeviceWrite, Supply, Receive, TakeSent, DropSent, SetLink, DeviceResize, DeviceComplete, DeviceDrop, DeviceHold, DeviceRelease}
 use Rattle.hexadecimal.specs.Fields.{IsBytesField, IsFixed, SpellsBytes, SpellsNumber}
@@ -53,14 +57,25 @@ pub record IsRegionsField (field : List ℕ) (regions : List RegionSpec) : Type 
   pub spelled : field ≡ regions_text regions
 
 -- a disk whose depth, where the host serves it, has 8 bits
-abbrev pub DiskInRange : Backing → Type 0
-DiskInRange Image = ⊤
-DiskInRange (Host depth) = depth < 2 ^ 8
+abbrev pub DepthInRange : Backing → Type 0
+DepthInRange Image = ⊤
+DepthInRange (Host depth) = depth < 2 ^ 8
 
--- the field is who has a disk
-pub record IsDiskField (field : List ℕ) (backing : Backing) : Type 0 where
-  pub fits : DiskInRange backing
-  pub spelled : field ≡ disk backing
+-- a slot's spare sectors have a spelling beside its disk: where the host serves that there are none
+abbrev pub StandsBeside : Backing → ℕ → Type 0
+StandsBeside Image spare = ⊤
+StandsBeside (Host depth) spare = spare ≡ 0
+
+-- a disk, and so many spare sectors
+pub record DiskInRange (backing : Backing) (spare : ℕ) : Type 0 where
+  pub depth : DepthInRange backing
+  pub wide : spare < 2 ^ 64
+  pub beside : StandsBeside backing spare
+
+-- the field is who has a disk, and how many spare sectors there are
+pub record IsDiskField (field : List ℕ) (backing : Backing) (spare : ℕ) : Type 0 where
+  pub fits : DiskInRange backing spare
+  pub spelled : field ≡ disk backing spare
 
 -- the address of a network card, six bytes, and its MTU of 16 bits (5.1.4)
 pub record CardInRange (mac : List ℕ) (mtu : ℕ) : Type 0 where
@@ -75,6 +90,13 @@ pub record FurtherDiskInRange (sectors : ℕ) (identity : List ℕ) (depth : ℕ
   pub twenty : length identity ≡ 20
   pub deep : depth < 2 ^ 8
 
+-- which of a slot's spare sectors a further disk over the image has, and its identity of 20 bytes (5.2.6)
+pub record ImageDiskInRange (extent : Extent) (identity : List ℕ) : Type 0 where
+  pub start : extent.start < 2 ^ 64
+  pub count : extent.count < 2 ^ 64
+  pub each : All (λ b. b < 2 ^ 8) identity
+  pub twenty : length identity ≡ 20
+
 -- the size of a console, of 16 bits each (5.3.4)
 pub record SizeInRange (cols rows : ℕ) : Type 0 where
   pub across : cols < 2 ^ 16
@@ -85,6 +107,7 @@ SpecInRange Entropy = ⊤
 SpecInRange (Network mac mtu) = CardInRange mac mtu
 SpecInRange (Block sectors read_only identity depth) = FurtherDiskInRange sectors identity depth
 SpecInRange (Console cols rows) = SizeInRange cols rows
+SpecInRange (spec.Image extent read_only identity) = ImageDiskInRange extent identity
 
 -- the field is the address of a network card (5.1.4): exactly six bytes
 abbrev pub IsAddressField : List ℕ → List ℕ → Type 0
@@ -126,7 +149,7 @@ pub data Shape : Type 0 where
 abbrev pub Says : Shape → List ℕ → Type 0
 Says (Num bits) field = SpellsNumber bits field
 Says Regions field = (regions : List RegionSpec) × IsRegionsField field regions
-Says Disk field = (backing : Backing) × IsDiskField field backing
+Says Disk field = (backing : Backing) × ((spare : ℕ) × IsDiskField field backing spare)
 Says Offset field = (n : ℕ) × IsFixed 3 field n
 Says Window field = (kind : SlotWindow) × (field ≡ window kind)
 Says Width field = (width : ℕ) × IsWidthField field width
@@ -240,46 +263,49 @@ behind_disk format =
     field.Start ∷ field.Count ∷ field.Mode ∷ field.Columns ∷ field.Rows
     ∷ unless_version_1 format (field.Identity ∷ [])
 
--- what stands behind the kind of a further device, by whether that is a disk
-abbrev pub behind_kind : Bool → List Field
-behind_kind true = field.Capacity ∷ field.Mode ∷ field.Identity ∷ field.Depth ∷ []
-behind_kind false = []
+-- what stands behind the kind of a further device
+abbrev pub behind_kind : BehindKind → List Field
+behind_kind Nothing = []
+behind_kind HostedDisk = field.Capacity ∷ field.Mode ∷ field.Identity ∷ field.Depth ∷ []
+behind_kind ImageDisk = field.Start ∷ field.Count ∷ field.Mode ∷ field.Identity ∷ []
 
--- the fields after each word, in a format; where a kind is among them, by whether that is a disk
-abbrev pub fields_in : Format → Word → Bool → List Field
-fields_in format Cache is_disk = field.Sectors ∷ []
-fields_in format Slot is_disk = memory_in format ++ (disk_in format ++ behind_disk format)
-fields_in format Read is_disk = field.Slot ∷ field.Window ∷ field.Offset ∷ field.Width ∷ []
-fields_in format Write is_disk = field.Slot ∷ field.Window ∷ field.Offset ∷ field.Width ∷ field.Value ∷ []
-fields_in format MemRead is_disk = field.Slot ∷ field.Address ∷ field.Length ∷ []
-fields_in format MemWrite is_disk = field.Slot ∷ field.Address ∷ field.Bytes ∷ []
-fields_in format Input is_disk = field.Slot ∷ field.Bytes ∷ []
-fields_in format Resize is_disk = field.Slot ∷ field.Columns ∷ field.Rows ∷ []
-fields_in format Restore is_disk = field.Slot ∷ field.Bytes ∷ []
-fields_in format Complete is_disk = field.Slot ∷ field.Tag ∷ field.Verdict ∷ []
-fields_in format Drop is_disk = field.Slot ∷ []
-fields_in format Hold is_disk = field.Slot ∷ []
-fields_in format Release is_disk = field.Slot ∷ []
-fields_in format Plug is_disk = field.Slot ∷ field.Device ∷ field.Kind ∷ behind_kind is_disk
-fields_in format DeviceRead is_disk = field.Slot ∷ field.Device ∷ field.Offset ∷ field.Width ∷ []
-fields_in format DeviceWrite is_disk = field.Slot ∷ field.Device ∷ field.Offset ∷ field.Width ∷ field.Value ∷ []
-fields_in format Supply is_disk = field.Slot ∷ field.Device ∷ field.Bytes ∷ []
-fields_in format Receive is_disk = field.Slot ∷ field.Device ∷ field.Bytes ∷ []
-fields_in format TakeSent is_disk = field.Slot ∷ field.Device ∷ []
-fields_in format DropSent is_disk = field.Slot ∷ field.Device ∷ []
-fields_in format SetLink is_disk = field.Slot ∷ field.Device ∷ field.Link ∷ []
-fields_in format DeviceResize is_disk = field.Slot ∷ field.Device ∷ field.Columns ∷ field.Rows ∷ []
-fields_in format DeviceComplete is_disk = field.Slot ∷ field.Device ∷ field.Tag ∷ field.Verdict ∷ []
-fields_in format DeviceDrop is_disk = field.Slot ∷ field.Device ∷ []
-fields_in format DeviceHold is_disk = field.Slot ∷ field.Device ∷ []
-fields_in format DeviceRelease is_disk = field.Slot ∷ field.Device ∷ []
+-- the fields after each word, in a format; where a kind is among them, by what stands behind it
+abbrev pub fields_in : Format → Word → BehindKind → List Field
+fields_in format Cache behind = field.Sectors ∷ []
+fields_in format Slot behind = memory_in format ++ (disk_in format ++ behind_disk format)
+fields_in format Read behind = field.Slot ∷ field.Window ∷ field.Offset ∷ field.Width ∷ []
+fields_in format Write behind = field.Slot ∷ field.Window ∷ field.Offset ∷ field.Width ∷ field.Value ∷ []
+fields_in format MemRead behind = field.Slot ∷ field.Address ∷ field.Length ∷ []
+fields_in format MemWrite behind = field.Slot ∷ field.Address ∷ field.Bytes ∷ []
+fields_in format Input behind = field.Slot ∷ field.Bytes ∷ []
+fields_in format Resize behind = field.Slot ∷ field.Columns ∷ field.Rows ∷ []
+fields_in format Restore behind = field.Slot ∷ field.Bytes ∷ []
+fields_in format Complete behind = field.Slot ∷ field.Tag ∷ field.Verdict ∷ []
+fields_in format Drop behind = field.Slot ∷ []
+fields_in format Hold behind = field.Slot ∷ []
+fields_in format Release behind = field.Slot ∷ []
+fields_in format Plug behind = field.Slot ∷ field.Device ∷ field.Kind ∷ behind_kind behind
+fields_in format DeviceRead behind = field.Slot ∷ field.Device ∷ field.Offset ∷ field.Width ∷ []
+fields_in format DeviceWrite behind = field.Slot ∷ field.Device ∷ field.Offset ∷ field.Width ∷ field.Value ∷ []
+fields_in format Supply behind = field.Slot ∷ field.Device ∷ field.Bytes ∷ []
+fields_in format Receive behind = field.Slot ∷ field.Device ∷ field.Bytes ∷ []
+fields_in format TakeSent behind = field.Slot ∷ field.Device ∷ []
+fields_in format DropSent behind = field.Slot ∷ field.Device ∷ []
+fields_in format SetLink behind = field.Slot ∷ field.Device ∷ field.Link ∷ []
+fields_in format DeviceResize behind = field.Slot ∷ field.Device ∷ field.Columns ∷ field.Rows ∷ []
+fields_in format DeviceComplete behind = field.Slot ∷ field.Device ∷ field.Tag ∷ field.Verdict ∷ []
+fields_in format DeviceDrop behind = field.Slot ∷ field.Device ∷ []
+fields_in format DeviceHold behind = field.Slot ∷ field.Device ∷ []
+fields_in format DeviceRelease behind = field.Slot ∷ field.Device ∷ []
 
--- of the fields of a line, the one that may be a kind, and whether that is a disk
+-- of the fields of a line, the one that may be a kind, and what stands behind that
 abbrev pub kind_among : List (List ℕ) → List ℕ
 kind_among fields = slice_index_or fields 2 []
 
-abbrev pub is_disk_kind : List ℕ → Bool
-is_disk_kind field = bytes_eq field (codes "disk")
+abbrev pub behind_word : List ℕ → BehindKind
+behind_word field =
+    if bytes_eq field (codes "disk") then HostedDisk
+    else (if bytes_eq field (codes "image") then ImageDisk else Nothing)
 
 -- of the fields of a line, the one by which a value is read
 abbrev pub width_among : List (List ℕ) → List ℕ
@@ -317,7 +343,7 @@ shape_of width field.Depth = Num 8
 -- the shapes of the fields after a word, in a format, where these are the fields
 abbrev pub shapes : Format → Word → List (List ℕ) → List Shape
 shapes format word fields =
-    map (shape_of (width_among fields)) (fields_in format word (is_disk_kind (kind_among fields)))
+    map (shape_of (width_among fields)) (fields_in format word (behind_word (kind_among fields)))
 
 -- the fields are as many as the shapes, and each says a value of its own
 abbrev pub AllRight : List Shape → List (List ℕ) → Type 0

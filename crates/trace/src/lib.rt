@@ -31,11 +31,11 @@ pub use print::{
     put_line, put_read, write_whole,
 };
 pub use read::{
-    ParsedEvent, Validated, event_of_line, field_at_fault, first_word, line_of, names_disk,
+    ParsedEvent, Validated, behind_named, event_of_line, field_at_fault, first_word, line_of,
     read_bytes, read_trace, spelled_len, take_event, take_input, take_mem_write, take_read,
     take_write, unrefused_line_begins, validate,
 };
 pub use round_trip::read_back;
-pub use table::{Field, fields_after};
+pub use table::{BehindKind, Field, fields_after};
 pub use trace::{Trace, to_version_2};
 pub use word::Word;

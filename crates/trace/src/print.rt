@@ -5,7 +5,7 @@
 
 ghost use Rattle.std.specs.Prelude.{◌≡◌, ◌*◌, ◌^◌, ◌<◌, ◌↔◌, ◌++◌, ◌∷◌, All, IsTrue, IfOk, OnOk, length, map};
 ghost use Rattle.trace.specs.Printable.{InRange, IsAccess, IsPrintable, IsPrintableDisk, IsPrintableDone, IsPrintableKind, IsPrintableMemory, IsPrintableSlot};
-ghost use Rattle.trace.specs.Spelling.{device_kind, field_text, is_disk, spec_fields};
+ghost use Rattle.trace.specs.Spelling.{behind_of, device_kind, field_text, spec_fields};
 ghost use Rattle.trace.specs.Text.{content, text as text_of, device_fields, ended, event_fields, event_line, front_text, joined, slot_line, word_for};
 ghost use Rattle.trace.specs.Words.{IsWidth, IsWordOf, behind_kind, fields_in, spelled};
 
@@ -32,8 +32,8 @@ use guest_memory::RegionSpec;
 use std::alloc::{AllocError, Allocator};
 
 /// Whether the trace has a text. In each, the offset of a register access has three digits, its width is 1, 2 or 4, and a value
-/// that is written is within that width. In a plain trace, each memory has one region, the disks are on the image, there is no
-/// Restore and the host says nothing, and in version 1 each slot has the identity of that version. In an extended one, each memory
+/// that is written is within that width. In a plain trace, each memory has one region, the disks are on the image, no slot has spare
+/// sectors, there is no Restore and the host says nothing, and in version 1 each slot has the identity of that version. In an extended one, each memory
 /// has a region. Each trace that was read has a text.
 pub fn is_printable<A: Allocator>(trace: &Trace<A>) -> bool
     ensures { IsTrue result ↔ IsPrintable (content trace.now) }
@@ -55,7 +55,7 @@ fn slot_has_line(format: Format, slot: &SlotSpec) -> bool
     ensures { IsTrue result ↔ IsPrintableSlot format slot.now }
 {
     has_memory(format, slot.regions.as_slice().len())
-        && has_disk(format, slot.backing)
+        && has_disk(format, slot.backing, slot.spare)
         && (format != Format::Plain(Version::One) || slot.identity == identity_in_version_1())
 }
 
@@ -69,13 +69,13 @@ fn has_memory(format: Format, count: usize) -> bool
     }
 }
 
-// Whether a disk has a spelling in a format.
-fn has_disk(format: Format, backing: Backing) -> bool
-    ensures { IsTrue result ↔ IsPrintableDisk format backing }
+// Whether a disk, and so many spare sectors, have a spelling in a format.
+fn has_disk(format: Format, backing: Backing, spare: u64) -> bool
+    ensures { IsTrue result ↔ IsPrintableDisk format backing spare }
 {
     match format {
-        Format::Plain(_) => backing == Backing::Image,
-        Format::Extended => true,
+        Format::Plain(_) => backing == Backing::Image && spare == 0,
+        Format::Extended => backing == Backing::Image || spare == 0,
     }
 }
 
@@ -232,6 +232,7 @@ fn push_slot<A: Allocator>(
         size: len,
         regions,
         backing: slot.backing,
+        spare: slot.spare,
         start: slot.extent.start,
         count: slot.extent.count,
         read_only: slot.read_only,
@@ -257,7 +258,7 @@ fn push_event<A: Allocator>(out: &mut Vec<u8, A>, event: &Event<A>) -> Result<()
 #[tactic(auto, using(crate::proofs::Widths::num_width))]
 fn event_says<A: Allocator>(event: &Event<A>) -> (Word, LineFields<'_>)
     requires { IsPrintableKind event.now.what }
-    ensures { spelled result.0 ∷ map (field_text result.1) (fields_in Format.Extended result.0 (is_disk result.1.kind)) ≡ event_fields event.now }
+    ensures { spelled result.0 ∷ map (field_text result.1) (fields_in Format.Extended result.0 (behind_of result.1.kind)) ≡ event_fields event.now }
 {
     let mut fields = LineFields {
         slot: event.slot,
@@ -323,7 +324,7 @@ fn device_says<'a, A: Allocator>(
     mut fields: LineFields<'a>,
 ) -> (Word, LineFields<'a>)
     requires { IsPrintableDone done.now }
-    ensures { spelled result.0 ∷ map (field_text result.1) (fields_in Format.Extended result.0 (is_disk result.1.kind)) ≡
+    ensures { spelled result.0 ∷ map (field_text result.1) (fields_in Format.Extended result.0 (behind_of result.1.kind)) ≡
         device_fields fields.entry.slot fields.entry.device done.now }
 {
     match done {
@@ -373,20 +374,30 @@ fn device_says<'a, A: Allocator>(
 
 // What the fields behind a further device say of what it is to be.
 fn plug_says(spec: DeviceSpec, fields: &mut LineFields<'_>)
-    ensures fields { device_kind fields.new.kind ∷ map (field_text fields.new) (behind_kind (is_disk fields.new.kind)) ≡
+    ensures fields { device_kind fields.new.kind ∷ map (field_text fields.new) (behind_kind (behind_of fields.new.kind)) ≡
         device_kind spec ∷ spec_fields spec }
     ensures slot { fields.new.slot ≡ fields.old.slot }
     ensures device { fields.new.device ≡ fields.old.device }
 {
     fields.kind = spec;
-    if let DeviceSpec::Block {
-        sectors,
-        read_only,
-        identity,
-        depth,
-    } = spec
-    {
-        (fields.capacity, fields.depth) = (sectors, depth);
-        (fields.read_only, fields.identity) = (read_only, identity);
+    match spec {
+        DeviceSpec::Entropy | DeviceSpec::Network { .. } | DeviceSpec::Console { .. } => {}
+        DeviceSpec::Block {
+            sectors,
+            read_only,
+            identity,
+            depth,
+        } => {
+            (fields.capacity, fields.depth) = (sectors, depth);
+            (fields.read_only, fields.identity) = (read_only, identity);
+        }
+        DeviceSpec::Image {
+            extent,
+            read_only,
+            identity,
+        } => {
+            (fields.start, fields.count) = (extent.start, extent.count);
+            (fields.read_only, fields.identity) = (read_only, identity);
+        }
     }
 }

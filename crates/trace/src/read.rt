@@ -36,7 +36,7 @@ mod values;
 use crate::fault::{FaultKind, TraceFault};
 use crate::format::{Format, format_of};
 use crate::read::at_fault::fault_in;
-pub use crate::read::at_fault::{field_at_fault, first_word, names_disk};
+pub use crate::read::at_fault::{behind_named, field_at_fault, first_word};
 pub use crate::read::cut::line_of;
 use crate::read::cut::{take_field, take_line};
 use crate::read::entry::{Entry, entry_of};

@@ -16,12 +16,12 @@ pub enum Field {
     Size,
     /// The regions of a slot's memory.
     Regions,
-    /// Who has a slot's disk.
+    /// Who has a slot's disk, and how many spare sectors of the image the slot has.
     Disk,
-    /// The first sector of a slot's extent, and how many it has.
+    /// The first sector of an extent, and how many it has.
     Start,
     Count,
-    /// Whether a slot's disk is read-only.
+    /// Whether a disk is read-only.
     Mode,
     Columns,
     Rows,
@@ -46,16 +46,26 @@ pub enum Field {
     Kind,
     /// Whether the link of a network card is up.
     Link,
-    /// How many sectors a further disk has.
+    /// How many sectors a further disk has that the host serves.
     Capacity,
     /// How many of its operations may be in flight.
     Depth,
 }
 
-/// The fields after a word in a format, in their order. Where a line is about a further device's kind, these are behind it those of
-/// a disk, if it `is_disk`.
-pub fn fields_after(format: Format, word: Word, is_disk: bool) -> &'static [Field]
-    ensures { result.now ≡ fields_in format word is_disk }
+/// What a line says of a further device behind its kind.
+#[derive(Clone, Copy, Debug, PartialEq, Eq)]
+pub enum BehindKind {
+    /// Nothing, or the line has no kind.
+    Nothing,
+    /// What a disk that the host serves is to be.
+    HostedDisk,
+    /// What a disk over the image is to be.
+    ImageDisk,
+}
+
+/// The fields after a word in a format, in their order. Where a kind is among them, these are `behind` it.
+pub fn fields_after(format: Format, word: Word, behind: BehindKind) -> &'static [Field]
+    ensures { result.now ≡ fields_in format word behind }
 {
     use Field::*;
     match word {
@@ -76,8 +86,11 @@ pub fn fields_after(format: Format, word: Word, is_disk: bool) -> &'static [Fiel
         Word::Restore => &[Slot, Bytes],
         Word::Complete => &[Slot, Tag, Verdict],
         Word::Drop | Word::Hold | Word::Release => &[Slot],
-        Word::Plug if is_disk => &[Slot, Device, Kind, Capacity, Mode, Identity, Depth],
-        Word::Plug => &[Slot, Device, Kind],
+        Word::Plug => match behind {
+            BehindKind::Nothing => &[Slot, Device, Kind],
+            BehindKind::HostedDisk => &[Slot, Device, Kind, Capacity, Mode, Identity, Depth],
+            BehindKind::ImageDisk => &[Slot, Device, Kind, Start, Count, Mode, Identity],
+        },
         Word::DeviceRead => &[Slot, Device, Offset, Width],
         Word::DeviceWrite => &[Slot, Device, Offset, Width, Value],
         Word::Supply | Word::Receive => &[Slot, Device, Bytes],

@@ -9,7 +9,8 @@ pub(crate) const MOST_FIELDS: usize = 8;
 #[derive(Clone, Copy)]
 pub(crate) enum FieldValue<'a> {
     Number(u64),
-    Disk(Backing),
+    /// Who has a disk, and how many spare sectors a slot has.
+    Disk(Backing, u64),
     Mode(bool),
     Window(SlotWindow),
     Offset(u16),

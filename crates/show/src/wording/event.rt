@@ -131,6 +131,17 @@ fn say_plug(text: &mut Text, spec: &DeviceSpec) {
             text.say("a console is plugged in, ");
             say_size(text, *cols, *rows);
         }
+        DeviceSpec::Image {
+            extent,
+            read_only,
+            ..
+        } => {
+            text.say("a disk is plugged in, ");
+            text.counted(extent.count, "sector");
+            text.say(" from spare sector ");
+            text.count(extent.start);
+            say_mode(text, *read_only);
+        }
     }
 }
 
@@ -147,6 +158,11 @@ pub fn say_disk(text: &mut Text, extent: Extent, backing: Backing, read_only: bo
             text.counted(u64::from(depth), "tag");
         }
     }
+    say_mode(text, read_only);
+}
+
+// Says whether a disk may be written.
+fn say_mode(text: &mut Text, read_only: bool) {
     text.say(if read_only {
         ", read-only"
     } else {

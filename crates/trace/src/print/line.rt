@@ -1,13 +1,13 @@
 //! The line of a trace: a word, and the fields after it in the table's order.
 
 ghost use Rattle.std.specs.Prelude.{◌≡◌, ◌++◌, ◌∷◌, OnOk, map};
-ghost use Rattle.trace.specs.Spelling.{device_kind, disk, field_text, is_disk};
+ghost use Rattle.trace.specs.Spelling.{behind_of, device_kind, disk, field_text};
 ghost use Rattle.trace.specs.Text.{ended, line};
 ghost use Rattle.trace.specs.Words.{fields_in, spelled};
 
 use crate::format::Format;
 use crate::print::regions::push_regions;
-use crate::table::{Field, fields_after};
+use crate::table::{BehindKind, Field, fields_after};
 use crate::word::{Word, spelling_of};
 use board::{Backing, DeviceSpec, SlotWindow, Verdict};
 use guest_memory::RegionSpec;
@@ -22,6 +22,7 @@ pub(crate) struct LineFields<'a> {
     pub size: u64,
     pub regions: &'a [RegionSpec],
     pub backing: Backing,
+    pub spare: u64,
     pub start: u64,
     pub count: u64,
     pub read_only: bool,
@@ -54,6 +55,7 @@ impl Default for LineFields<'_> {
             size: 0,
             regions: &[],
             backing: Backing::Image,
+            spare: 0,
             start: 0,
             count: 0,
             read_only: false,
@@ -86,10 +88,10 @@ pub(crate) fn push_line<A: Allocator>(
     word: Word,
     fields: &LineFields<'_>,
 ) -> Result<(), AllocError>
-    ensures { OnOk result (out.new.items ≡ out.old.items ++ ended (line (spelled word ∷ map (field_text fields.now) (fields_in format word (is_disk fields.now.kind))))) }
+    ensures { OnOk result (out.new.items ≡ out.old.items ++ ended (line (spelled word ∷ map (field_text fields.now) (fields_in format word (behind_of fields.now.kind))))) }
 {
     out.extend_from_slice(spelling_of(word))?;
-    let row = fields_after(format, word, is_disk(fields.kind));
+    let row = fields_after(format, word, behind_of(fields.kind));
     for field in row {
         out.push(b' ')?;
         push_field(out, *field, fields)?;
@@ -98,11 +100,17 @@ pub(crate) fn push_line<A: Allocator>(
     Ok(())
 }
 
-// Whether a further device is to be a disk.
-fn is_disk(kind: DeviceSpec) -> bool
-    ensures { result ≡ is_disk kind }
+// What stands behind the kind of what a further device is to be.
+fn behind_of(kind: DeviceSpec) -> BehindKind
+    ensures { result ≡ behind_of kind }
 {
-    matches!(kind, DeviceSpec::Block { .. })
+    match kind {
+        DeviceSpec::Entropy | DeviceSpec::Network { .. } | DeviceSpec::Console { .. } => {
+            BehindKind::Nothing
+        }
+        DeviceSpec::Block { .. } => BehindKind::HostedDisk,
+        DeviceSpec::Image { .. } => BehindKind::ImageDisk,
+    }
 }
 
 // Appends the spelling of a field.
@@ -118,7 +126,7 @@ fn push_field<A: Allocator>(
         Field::Base => push_num(out, fields.base),
         Field::Size => push_num(out, fields.size),
         Field::Regions => push_regions(out, fields.regions),
-        Field::Disk => push_disk(out, fields.backing),
+        Field::Disk => push_disk(out, fields.backing, fields.spare),
         Field::Start => push_num(out, fields.start),
         Field::Count => push_num(out, fields.count),
         Field::Mode if fields.read_only => out.extend_from_slice(b"ro"),
@@ -151,12 +159,21 @@ fn push_field<A: Allocator>(
     }
 }
 
-// Appends who has a disk.
-fn push_disk<A: Allocator>(out: &mut Vec<u8, A>, backing: Backing) -> Result<(), AllocError>
-    ensures { OnOk result (out.new.items ≡ out.old.items ++ disk backing) }
+// Appends who has a slot's disk, and how many spare sectors the slot has.
+#[tactic(auto, using(crate::proofs::Disks::spelled_beside))]
+fn push_disk<A: Allocator>(
+    out: &mut Vec<u8, A>,
+    backing: Backing,
+    spare: u64,
+) -> Result<(), AllocError>
+    ensures { OnOk result (out.new.items ≡ out.old.items ++ disk backing spare) }
 {
     match backing {
-        Backing::Image => out.extend_from_slice(b"image"),
+        Backing::Image if spare == 0 => out.extend_from_slice(b"image"),
+        Backing::Image => {
+            out.extend_from_slice(b"image+")?;
+            push_num(out, spare)
+        }
         Backing::Host { depth } => {
             out.extend_from_slice(b"host:")?;
             push_num(out, u64::from(depth))
@@ -177,6 +194,7 @@ fn push_kind<A: Allocator>(out: &mut Vec<u8, A>, kind: DeviceSpec) -> Result<(),
             push_num(out, u64::from(mtu))
         }
         DeviceSpec::Block { .. } => out.extend_from_slice(b"disk"),
+        DeviceSpec::Image { .. } => out.extend_from_slice(b"image"),
         DeviceSpec::Console { cols, rows } => {
             out.extend_from_slice(b"console:")?;
             push_num(out, u64::from(cols))?;

@@ -6,7 +6,7 @@
 ghost use Rattle.std.specs.Prelude.{All, ◌^◌, ◌<◌};
 ghost use Rattle.trace.specs.Printable.{DoneInRange, EventInRange, InRange, KindInRange, SlotInRange};
 ghost use Rattle.trace.specs.Text.{content};
-ghost use Rattle.trace.specs.Words.{DiskInRange, RegionInRange, SpecInRange};
+ghost use Rattle.trace.specs.Words.{DepthInRange, RegionInRange, SpecInRange};
 
 use crate::trace::Trace;
 use board::{Backing, DeviceEvent, DeviceSpec, Event, EventKind, HostEvent, SlotSpec};
@@ -34,7 +34,8 @@ fn slot_in_range(slot: &SlotSpec)
     }
     let _start = slot.extent.start;
     let _count = slot.extent.count;
-    disk_in_range(slot.backing);
+    let _spare = slot.spare;
+    depth_in_range(slot.backing);
     let _cols = slot.cols;
     let _rows = slot.rows;
     bytes_in_range(&slot.identity);
@@ -47,8 +48,8 @@ fn region_in_range(region: &RegionSpec)
     let _len = region.len;
 }
 
-fn disk_in_range(backing: Backing)
-    ensures { DiskInRange backing }
+fn depth_in_range(backing: Backing)
+    ensures { DepthInRange backing }
 {
     if let Backing::Host { depth } = backing {
         let _depth = depth;
@@ -131,6 +132,15 @@ fn spec_in_range(spec: DeviceSpec)
         DeviceSpec::Console { cols, rows } => {
             let _cols = cols;
             let _rows = rows;
+        }
+        DeviceSpec::Image {
+            extent,
+            identity,
+            ..
+        } => {
+            let _start = extent.start;
+            let _count = extent.count;
+            bytes_in_range(&identity);
         }
     }
 }

@@ -5,14 +5,14 @@ ghost use Rattle.std.specs.Option.{option_copied};
 ghost use Rattle.trace.specs.Cuts.{fields_left};
 ghost use Rattle.trace.specs.Faults.{AllSay, IsAtFault, fault_of, first_field, other_fields};
 ghost use Rattle.trace.specs.Refusals.{RefusesFields};
-ghost use Rattle.trace.specs.Words.{AreRight, is_disk_kind, kind_among, shape_of, shapes, spelled, width_among};
+ghost use Rattle.trace.specs.Words.{AreRight, behind_word, kind_among, shape_of, shapes, spelled, width_among};
 ghost use Rattle.trace.specs.declared.word.Word.{Word};
 
 use crate::fault::FaultKind;
 use crate::format::Format;
 use crate::read::cut::{nth_field, take_field};
-use crate::read::values::{disk_is_named, says};
-use crate::table::{Field, fields_after};
+use crate::read::values::{behind_in, says};
+use crate::table::{BehindKind, Field, fields_after};
 use crate::word::{Word, word_of};
 
 /// The first field of a line that has a fault of this kind, and the bytes that stand there.
@@ -24,7 +24,7 @@ pub fn field_at_fault(format: Format, line: &[u8], kind: FaultKind) -> Option<(F
 {
     let word = first_word(line)?;
     let (_, rest) = take_field(line);
-    let fields = fields_after(format, word, disk_is_named(rest));
+    let fields = fields_after(format, word, behind_in(rest));
     first_at_fault(fields, rest, nth_field(rest, 3), kind)
 }
 
@@ -37,12 +37,12 @@ pub fn first_word(line: &[u8]) -> Option<Word>
     word_of(first)
 }
 
-/// Whether a line names the kind of a further disk, in the place of a kind.
-pub fn names_disk(line: &[u8]) -> bool
-    ensures { result ≡ is_disk_kind (kind_among (other_fields line.now)) }
+/// What a line has behind what it names in the place of a kind.
+pub fn behind_named(line: &[u8]) -> BehindKind
+    ensures { result ≡ behind_word (kind_among (other_fields line.now)) }
 {
     let (_, rest) = take_field(line);
-    disk_is_named(rest)
+    behind_in(rest)
 }
 
 /// The fault of the fields that are left after a word, in a format.
@@ -50,7 +50,7 @@ pub(crate) fn fault_in(format: Format, word: Word, rest: Option<&[u8]>) -> Fault
     requires { ¬ AreRight format word (fields_left (option_copied rest)) }
     ensures { RefusesFields format word (fields_left (option_copied rest.entry)) result }
 {
-    let fields = fields_after(format, word, disk_is_named(rest));
+    let fields = fields_after(format, word, behind_in(rest));
     let width = nth_field(rest, 3);
     if !are_as_many(fields, rest) {
         FaultKind::Fields

@@ -1,13 +1,14 @@
 //! What the fields of a line say that is about a further device.
 
-ghost use Rattle.std.specs.Prelude.{◌≡◌, ◌∷◌, [], ◌<◌, ◌^◌, codes, map, true};
+ghost use Rattle.std.specs.Prelude.{◌≡◌, ◌∷◌, [], ◌<◌, ◌^◌, codes, map};
 ghost use Rattle.trace.specs.declared.format.Format.{Format};
+ghost use Rattle.trace.specs.declared.table.BehindKind.{BehindKind};
 ghost use Rattle.trace.specs.declared.word.Word.{Word};
 ghost use Rattle.board.specs.declared.event.DeviceEvent.{DeviceEvent};
 ghost use Rattle.board.specs.declared.event.EventKind.{EventKind};
 ghost use Rattle.hexadecimal.specs.Spelling.{num};
 ghost use Rattle.trace.specs.ParsedEvent.{IsFineParsed, parsed_fields};
-ghost use Rattle.trace.specs.Spelling.{device_kind, is_disk, spec_fields, value_text};
+ghost use Rattle.trace.specs.Spelling.{behind_of, device_kind, spec_fields, value_text};
 ghost use Rattle.trace.specs.Text.{word_for};
 ghost use Rattle.trace.specs.Values.{AreOf};
 ghost use Rattle.trace.specs.Words.{IsDeviceWord, IsDiskWord, Num, SpecInRange, behind_kind, shape_of, shapes, spelled};
@@ -17,7 +18,7 @@ use crate::value::FieldValue::{
     self, Identity, Kind, Link, Mode, Number, Offset, Spelled, Value, Verdict, Width,
 };
 use crate::word::Word;
-use board::{Bytes, DeviceEvent, DeviceSpec, HostEvent};
+use board::{Bytes, DeviceEvent, DeviceSpec, Extent, HostEvent};
 use std::alloc::Allocator;
 
 /// What the values after a word say that is done to a further device. Bytes are still spelled, so there are none.
@@ -88,23 +89,24 @@ fn plug_of<'a, A: Allocator>(values: &[FieldValue<'a>]) -> ParsedEvent<'a, A>
     ParsedEvent::device(slot as u8, device as u8, plug, &[])
 }
 
-// What a further device is to be, by its kind and the values behind that: a disk alone has some.
+// What a further device is to be, by its kind and the values behind that: disks alone have some.
 fn spec_of(kind: DeviceSpec, behind: &[FieldValue<'_>]) -> DeviceSpec
     requires fits { SpecInRange kind }
-    requires values { AreOf (map (shape_of []) (behind_kind (is_disk kind))) behind.now }
+    requires values { AreOf (map (shape_of []) (behind_kind (behind_of kind))) behind.now }
     ensures kind { device_kind result ≡ device_kind kind }
     ensures fields { spec_fields result ≡ map value_text behind.now }
     ensures range { SpecInRange result }
 {
     match kind {
         DeviceSpec::Block { .. } => disk_of(behind),
+        DeviceSpec::Image { .. } => image_of(behind),
         kind => kind,
     }
 }
 
-// What a further disk is to be.
+// What a further disk is to be that the host serves.
 fn disk_of(values: &[FieldValue<'_>]) -> DeviceSpec
-    requires { AreOf (map (shape_of []) (behind_kind true)) values.now }
+    requires { AreOf (map (shape_of []) (behind_kind BehindKind.HostedDisk)) values.now }
     ensures kind { device_kind result ≡ codes "disk" }
     ensures fields { spec_fields result ≡ map value_text values.now }
     ensures range { SpecInRange result }
@@ -123,6 +125,29 @@ fn disk_of(values: &[FieldValue<'_>]) -> DeviceSpec
         read_only,
         identity,
         depth: depth as u8,
+    }
+}
+
+// The same of one over the image.
+fn image_of(values: &[FieldValue<'_>]) -> DeviceSpec
+    requires { AreOf (map (shape_of []) (behind_kind BehindKind.ImageDisk)) values.now }
+    ensures kind { device_kind result ≡ codes "image" }
+    ensures fields { spec_fields result ≡ map value_text values.now }
+    ensures range { SpecInRange result }
+{
+    let &[
+        Number(start),
+        Number(count),
+        Mode(read_only),
+        Identity(identity),
+    ] = values
+    else {
+        unreachable!()
+    };
+    DeviceSpec::Image {
+        extent: Extent { start, count },
+        read_only,
+        identity,
     }
 }
 

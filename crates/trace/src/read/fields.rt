@@ -15,7 +15,7 @@ ghost use Rattle.trace.specs.Text.{cache_fields, disk_fields, memory_fields, slo
 ghost use Rattle.trace.specs.Values.{AreOf};
 ghost use Rattle.trace.specs.declared.format.Format.{Format};
 ghost use Rattle.trace.specs.Format.{identity_in_version_1, if_extended, unless_version_1};
-ghost use Rattle.trace.specs.Words.{AreRight, Disk as ByDisk, DiskInRange, Identity as ByIdentity, Mode as ByMode, Num, RegionInRange, shapes, spelled};
+ghost use Rattle.trace.specs.Words.{AreRight, Disk as ByDisk, DepthInRange, Identity as ByIdentity, Mode as ByMode, Num, RegionInRange, shapes, spelled};
 
 use crate::format::{Format, Version, identity_in_version_1};
 use crate::read::device_fields::device_of;
@@ -200,7 +200,7 @@ pub(crate) fn slot_of(format: Format, rest: Option<&[u8]>) -> Option<SlotSpec>
 {
     let values = values_of(format, Word::Slot, rest)?;
     let (regions, others) = memory_of(format, values.as_slice());
-    let (backing, others) = disk_of(format, others);
+    let (backing, spare, others) = disk_of(format, others);
     let &[
         Number(start),
         Number(count),
@@ -217,6 +217,7 @@ pub(crate) fn slot_of(format: Format, rest: Option<&[u8]>) -> Option<SlotSpec>
     Some(SlotSpec {
         regions,
         extent,
+        spare,
         backing,
         read_only,
         cols: cols as u16,
@@ -249,17 +250,22 @@ fn memory_of<'a, 'b>(
     }
 }
 
-// Who has a slot's disk, from the first of the values behind its memory, and the values behind that.
-fn disk_of<'a, 'b>(format: Format, values: &'b [FieldValue<'a>]) -> (Backing, &'b [FieldValue<'a>])
+// Who has a slot's disk and how many spare sectors the slot has, from the first of the values behind its memory, and the
+// values behind that.
+fn disk_of<'a, 'b>(
+    format: Format,
+    values: &'b [FieldValue<'a>],
+) -> (Backing, u64, &'b [FieldValue<'a>])
     requires { AreOf (if_extended format (ByDisk ∷ []) ++ (Num 64 ∷ Num 64 ∷ ByMode ∷ Num 16 ∷ Num 16 ∷ unless_version_1 format (ByIdentity ∷ []))) values.now }
-    ensures fields { map value_text values.now ≡ disk_fields format result.0 ++ map value_text result.1.now }
-    ensures others { AreOf (Num 64 ∷ Num 64 ∷ ByMode ∷ Num 16 ∷ Num 16 ∷ unless_version_1 format (ByIdentity ∷ [])) result.1.now }
-    ensures fits { DiskInRange result.0 }
-    ensures printable { IsPrintableDisk format result.0 }
+    ensures fields { map value_text values.now ≡ disk_fields format result.0 result.1 ++ map value_text result.2.now }
+    ensures others { AreOf (Num 64 ∷ Num 64 ∷ ByMode ∷ Num 16 ∷ Num 16 ∷ unless_version_1 format (ByIdentity ∷ [])) result.2.now }
+    ensures fits { DepthInRange result.0 }
+    ensures wide { result.1 < 2 ^ 64 }
+    ensures printable { IsPrintableDisk format result.0 result.1 }
 {
     match (format, values) {
-        (Format::Plain(_), others) => (Backing::Image, others),
-        (Format::Extended, &[Disk(backing), ref others @ ..]) => (backing, others),
+        (Format::Plain(_), others) => (Backing::Image, 0, others),
+        (Format::Extended, &[Disk(backing, spare), ref others @ ..]) => (backing, spare, others),
         _ => unreachable!(),
     }
 }

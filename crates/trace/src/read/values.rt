@@ -4,17 +4,17 @@ ghost use Rattle.std.specs.Prelude.{◌≡◌, ◌↔◌, ◌≤◌, IfNone, IfS
 ghost use Rattle.std.specs.Option.{option_copied};
 ghost use Rattle.trace.specs.Cuts.{fields_left};
 ghost use Rattle.trace.specs.Values.{SayValues, SaysValue};
-ghost use Rattle.trace.specs.Words.{AllRight, AreRight, HasValueField, Says, Value as ByWidth, is_disk_kind, kind_among, shape_of, shapes, width_among};
+ghost use Rattle.trace.specs.Words.{AllRight, AreRight, HasValueField, Says, Value as ByWidth, behind_word, kind_among, shape_of, shapes, width_among};
 
 use crate::format::Format;
 use crate::read::choice::{
-    backing_of, is_disk_kind, kind_of, link_of, mode_of, verdict_of, width_of, window_of,
+    backing_of, behind_word, kind_of, link_of, mode_of, verdict_of, width_of, window_of,
 };
 use crate::read::cut::{at_end, next_field, nth_field};
 use crate::read::identity::identity_of;
 use crate::read::offset::offset_of;
 use crate::read::regions::are_regions;
-use crate::table::{Field, fields_after};
+use crate::table::{BehindKind, Field, fields_after};
 use crate::value::FieldValue::{
     self, Disk, Identity, Kind, Link, Mode, Number, Offset, Spelled, Value, Verdict, Width, Window,
 };
@@ -32,15 +32,15 @@ pub(crate) fn values_of(format: Format, word: Word, rest: Option<&[u8]>) -> Opti
     ensures some { IfSome result (λ values. SayValues (shapes format word (fields_left (option_copied rest.entry))) (fields_left (option_copied rest.entry)) values.items) }
     ensures none { IfNone result (¬ AreRight format word (fields_left (option_copied rest.entry))) }
 {
-    let fields = fields_after(format, word, disk_is_named(rest));
+    let fields = fields_after(format, word, behind_in(rest));
     values_in(fields, width_for(word, rest), rest)
 }
 
-/// Whether the fields after a word name the kind of a further disk, in the place of a kind.
-pub(crate) fn disk_is_named(rest: Option<&[u8]>) -> bool
-    ensures { result ≡ is_disk_kind (kind_among (fields_left (option_copied rest.entry))) }
+/// What stands behind the field after a word that has the place of a kind.
+pub(crate) fn behind_in(rest: Option<&[u8]>) -> BehindKind
+    ensures { result ≡ behind_word (kind_among (fields_left (option_copied rest.entry))) }
 {
-    is_disk_kind(nth_field(rest, 2))
+    behind_word(nth_field(rest, 2))
 }
 
 // The field by which a value of the word's line is read, where it has one.
@@ -97,7 +97,10 @@ fn value_of<'a>(field: Field, width: &[u8], bytes: &'a [u8]) -> Option<FieldValu
         Field::Value => written_value(width, bytes),
         Field::Window => Some(Window(window_of(bytes)?)),
         Field::Width => Some(Width(width_of(bytes)?)),
-        Field::Disk => Some(Disk(backing_of(bytes)?)),
+        Field::Disk => {
+            let (backing, spare) = backing_of(bytes)?;
+            Some(Disk(backing, spare))
+        }
         Field::Mode => Some(Mode(mode_of(bytes)?)),
         Field::Verdict => Some(Verdict(verdict_of(bytes)?)),
         Field::Kind => Some(Kind(kind_of(bytes)?)),

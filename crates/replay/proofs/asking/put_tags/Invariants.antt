@@ -1,7 +1,7 @@
 use Rattle.std.proofs.Common.{bit_and, w64}
 use Rattle.std.specs.Int.{bit_not}
 use Rattle.std.specs.List.{slice_get}
-use Rattle.block_device.specs.Flights.{taken_bits}
+use Rattle.block_device.specs.Tags.{taken_bits}
 use Rattle.trace.specs.Sends.{waiting}
 use Rattle.replay.specs.Running.{tags_of}
 use Rattle.replay.proofs.Begun.{PutSofar}

@@ -15,7 +15,7 @@ pub returns-clause-some : goal.returns-clause-some
 returns-clause-some c =
     let fields = fields_left (option_copied c.args.rest) in
     let by = ap (λ (row : List Field). map (shape_of c.width_for.result.now) row) (c.fields_after-fields.ensures
-    ∙ ap (fields_in c.args.format c.args.word) c.disk_is_named.ensures)
+    ∙ ap (fields_in c.args.format c.args.word) c.behind_in.ensures)
     ∙ shapes_by c.args.format c.args.word _ fields c.width_for.ensures in
     subst (λ (ss : List Shape). IfSome c.values_in.result (λ values. SayValues ss fields values.items)) by
     c.values_in.ensures.some
@@ -24,6 +24,6 @@ pub returns-clause-none : goal.returns-clause-none
 returns-clause-none c =
     let fields = fields_left (option_copied c.args.rest) in
     let by = ap (λ (row : List Field). map (shape_of c.width_for.result.now) row) (c.fields_after-fields.ensures
-    ∙ ap (fields_in c.args.format c.args.word) c.disk_is_named.ensures)
+    ∙ ap (fields_in c.args.format c.args.word) c.behind_in.ensures)
     ∙ shapes_by c.args.format c.args.word _ fields c.width_for.ensures in
     subst (λ (ss : List Shape). IfNone c.values_in.result (¬ AllRight ss fields)) by c.values_in.ensures.none
