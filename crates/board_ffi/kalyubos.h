@@ -55,8 +55,9 @@
  *
  * Slot by slot a disk is of one of two kinds. It is an extent of an image in the library's memory, or the host serves
  * it. Then the board says what it wants of the disk, one to sixty-four operations at a time; the host does them as it
- * likes and says of each that it is done, in any order; meanwhile the guest runs on. A board may have disks of both. The
- * host serves each further disk of a slot too.
+ * likes and says of each that it is done, in any order; meanwhile the guest runs on. A board may have disks of both. So
+ * may the further disks of a slot be: the host serves those of kind KALYUBOS_DISK, and those of kind KALYUBOS_IMAGE_DISK
+ * show spare sectors of a slot whose own disk is of the image.
  *
  * kalyubos_create takes all memory that a board needs, and kalyubos_destroy gives it back; kalyubos_guest_create and
  * kalyubos_guest_destroy do so for a guest that runs on. kalyubos_judge takes some, and gives it back before it answers.
@@ -104,8 +105,8 @@ enum {
     KALYUBOS_TOO_MANY_SLOTS = 9,    /* a board has sixty-four slots at most */
     KALYUBOS_BAD_MEMORY_SIZE = 10,  /* a region's size is no multiple of 4096, or with it there are over 2^46 bytes */
     KALYUBOS_BAD_MEMORY_BASE = 11,  /* a region's base is no multiple of 4096, or the region passes 2^64 */
-    KALYUBOS_EXTENT_OUTSIDE = 12,   /* an extent passes the image's end, or a disk 2^64 bytes */
-    KALYUBOS_EXTENTS_OVERLAP = 13,  /* two extents share a sector */
+    KALYUBOS_EXTENT_OUTSIDE = 12,   /* a slot's sectors pass the image's end, or its disk 2^64 bytes */
+    KALYUBOS_EXTENTS_OVERLAP = 13,  /* two slots share a sector */
     KALYUBOS_BAD_CACHE = 14,        /* a cache keeps 1 to 65536 sectors */
     KALYUBOS_NO_ROOM = 15,          /* the console's next output doesn't fit behind what waits; see kalyubos_write */
     KALYUBOS_BAD_OUTLET = 16,       /* an outlet keeps 2^24 bytes at most */
@@ -124,10 +125,12 @@ enum {
     KALYUBOS_BAD_LOAN = 29,         /* the loans have another number or length than the regions */
     KALYUBOS_BAD_DEPTH = 30,        /* a disk that the host serves has a depth above 64 */
     KALYUBOS_OTHER_DEVICES = 31,    /* the snapshot has other further devices than the slot; nothing changed */
-    KALYUBOS_BAD_DEVICE = 32,       /* a further device's kind isn't known, a network card's MTU is below 68, or a disk has
-                                       2^55 sectors or more or a depth above 64; or a guest that runs on has one */
+    KALYUBOS_BAD_DEVICE = 32,       /* a further device's kind isn't known, a network card's MTU is below 68, or a disk that the
+                                       host serves has 2^55 sectors or more or a depth above 64; or a guest that runs on has
+                                       one */
     KALYUBOS_NOT_HOSTED = 33,       /* the host serves the disk of a guest that runs on, which is no extent of an image */
-    KALYUBOS_RUNS_ON = 34           /* a guest that runs on is on no board; see kalyubos_guest_create */
+    KALYUBOS_RUNS_ON = 34,          /* a guest that runs on is on no board; see kalyubos_guest_create */
+    KALYUBOS_BAD_EXTENT = 35        /* a disk over the image has no sectors, one that isn't a spare one, or one that another has */
 };
 
 /* What an answer says, as a sentence for a person. It is never null: a number of a later version has a sentence too. */
@@ -175,13 +178,14 @@ struct kalyubos_region {
     uint64_t len;
 };
 
-/* The kinds of further devices, by the standard's device IDs (5). */
+/* The kinds of further devices, by the standard's device IDs (5), but for the last. */
 enum {
     KALYUBOS_NO_DEVICE = 0,
     KALYUBOS_NETWORK = 1,        /* a network card (5.1) */
     KALYUBOS_DISK = 2,           /* a disk that the host serves (5.2) */
     KALYUBOS_CONSOLE_DEVICE = 3, /* a console (5.3) */
-    KALYUBOS_ENTROPY = 4         /* an entropy device (5.4) */
+    KALYUBOS_ENTROPY = 4,        /* an entropy device (5.4) */
+    KALYUBOS_IMAGE_DISK = 258    /* a disk over spare sectors of the image (5.2); its DeviceID is 2 */
 };
 
 /* How many further devices a slot has at most. */
@@ -192,13 +196,15 @@ enum { KALYUBOS_TAGS = 64 };
 
 /* A further device. Of a field that is for another kind of device nothing is read. */
 struct kalyubos_device {
-    uint32_t kind;        /* KALYUBOS_NO_DEVICE, _NETWORK, _DISK, _CONSOLE_DEVICE or _ENTROPY */
+    uint32_t kind;        /* KALYUBOS_NO_DEVICE, _NETWORK, _DISK, _CONSOLE_DEVICE, _ENTROPY or _IMAGE_DISK */
     uint16_t mtu;         /* of a network card: how many bytes a frame has behind its header of Ethernet at most, 68 or
                              more */
     uint8_t mac[6];       /* and its address */
-    uint32_t depth;       /* of a disk: how many operations may be in flight, 1 to KALYUBOS_TAGS; 0 is 1 */
-    uint64_t sectors;     /* how many sectors it has, fewer than 2^55 */
-    uint8_t identity[20]; /* what it answers to GET_ID, as of a slot's disk */
+    uint32_t depth;       /* of a disk that the host serves: how many operations may be in flight, 1 to KALYUBOS_TAGS; 0 is
+                             1 */
+    uint64_t sectors;     /* of a disk of either kind: how many sectors it has, fewer than 2^55; over the image one at least */
+    uint64_t start;       /* of a disk over the image: which of the slot's spare sectors is its first, from 0 on */
+    uint8_t identity[20]; /* of a disk of either kind: what it answers to GET_ID, as of a slot's disk */
     bool read_only;       /* and whether it refuses writes */
     uint16_t cols;        /* of a console: its columns */
     uint16_t rows;        /* and its rows */
@@ -213,6 +219,8 @@ struct kalyubos_slot {
     struct kalyubos_region regions[KALYUBOS_REGIONS]; /* of its memory: those before the first one of `len` 0 */
     uint64_t start;       /* the first sector of the image that its disk shows; not read where the host serves it */
     uint64_t count;       /* how many sectors its disk has */
+    uint64_t spare;       /* how many sectors of the image behind them are its too, for its further disks over the image; not
+                             read where the host serves its disk */
     uint16_t cols;        /* the columns of its console */
     uint16_t rows;        /* and its rows */
     uint32_t outlet;      /* how many bytes of what it puts out may wait to be taken */
@@ -285,7 +293,8 @@ static inline struct kalyubos_config kalyubos_config(const struct kalyubos_slot 
  * Makes a board and puts it into an empty handle. A refusal leaves the handle as it was and keeps no memory. The first
  * of these that holds is answered:
  *  - HAS_BOARD; BAD_SIZE, where the config's `size` or a slot's is another than its sizeof, and nothing behind it is
- *    read; RUNS_ON; BAD_LOAN, where there are loans; BAD_IMAGE; BAD_OUTLET; BAD_DEVICE; NO_SLOTS; TOO_MANY_SLOTS;
+ *    read; RUNS_ON; BAD_LOAN, where there are loans; BAD_IMAGE; BAD_OUTLET; BAD_DEVICE; BAD_EXTENT; NO_SLOTS;
+ *    TOO_MANY_SLOTS;
  *  - slot by slot NO_REGIONS, then region by region BAD_MEMORY_SIZE, BAD_MEMORY_BASE and REGIONS_NOT_APART, then
  *    BAD_DEPTH, EXTENT_OUTSIDE and EXTENTS_OVERLAP;
  *  - BAD_CACHE.
@@ -318,8 +327,8 @@ uint32_t kalyubos_create(struct kalyubos *board, struct kalyubos_config *config)
 /*
  * Judges a config as kalyubos_create does for an empty handle, and makes no board: it answers what that call would
  * answer, want of memory aside, and takes no loan. `slot` is told where the answer is about one: its place in the
- * array, of its BAD_SIZE, RUNS_ON, BAD_OUTLET and BAD_DEVICE too. So is `region`: its place in the slot's `regions`. NO_MEMORY
- * may come in the place of a number from NO_SLOTS on.
+ * array, of its BAD_SIZE, RUNS_ON, BAD_OUTLET, BAD_DEVICE and BAD_EXTENT too. So is `region`: its place in the slot's
+ * `regions`. NO_MEMORY may come in the place of a number from NO_SLOTS on.
  */
 uint32_t kalyubos_judge(const struct kalyubos_config *config, size_t *slot, size_t *region);
 
@@ -375,7 +384,7 @@ uint32_t kalyubos_go_on(struct kalyubos *board, uint8_t slot, struct kalyubos_pe
 
 /*
  * The following six calls are for a disk that the host serves: with the `window` KALYUBOS_BLOCK for the slot's own disk,
- * and from KALYUBOS_DEVICE on for the further device whose window it is. BAD_WINDOW where that is no disk. `pending` tells
+ * and from KALYUBOS_DEVICE on for the further device whose window it is. BAD_WINDOW where that isn't one. `pending` tells
  * what then waits of the slot's disk and console; for a further disk kalyubos_device_pending tells the line.
  *
  * This one tells which operations of the disk are in flight. Each has a tag, a number below the disk's `depth`: bit n of

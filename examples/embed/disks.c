@@ -1,7 +1,8 @@
 /*
- * A guest with three disks: its own, which is of an image in the library, and two further ones that its host serves from bytes
- * of its own, one for reading alone. Operations of both are in flight at once, and the host ends them in any order. One is put on
- * hold, and its operations are given up, while the others go on.
+ * A guest with five disks: its own, which is of an image in the library, two further ones that its host serves from bytes
+ * of its own, one for reading alone, and two further ones over spare sectors of the image. Operations of the host's are in flight
+ * at once, and the host ends them in any order. One is put on hold, and its operations are given up, while the others go on. Those
+ * of the image ask for nothing: a request is done with its notification.
  *
  * The guest is C as well: a driver's loads and stores are a CPU's exits.
  */
@@ -12,8 +13,9 @@
 
 #include "kalyubos.h"
 
-enum { SECTOR = 512, SECTORS = 8, LEN = SECTORS * SECTOR, DEPTH = 2, MEMORY_LEN = 0x10000 };
-enum { TOOLS = KALYUBOS_DEVICE, DATA = KALYUBOS_DEVICE + 1, WINDOWS }; /* the further disks' windows; 1 is the console's */
+enum { SECTOR = 512, SECTORS = 8, LEN = SECTORS * SECTOR, DEPTH = 2, MEMORY_LEN = 0x20000 };
+enum { SPARE = 5, LOG_START = 2, LOG_SECTORS = 3, CACHE_START = 0, CACHE_SECTORS = 2, IMAGE_LEN = (SECTORS + SPARE) * SECTOR };
+enum { TOOLS = KALYUBOS_DEVICE, DATA, LOG, CACHE, WINDOWS }; /* the further disks' windows; 1 is the console's */
 static const uint64_t MEMORY = 0x80000000;
 
 static struct kalyubos board;
@@ -185,18 +187,23 @@ static void ends(uint8_t window, uint8_t request, uint8_t status)
     need(*at(window, ENDS + request) == status, "a request's status");
 }
 
+static bool is_hosted(uint8_t window)
+{
+    return window == TOOLS || window == DATA;
+}
+
 /* ---- what they do */
 
 /* A read of each disk's own bytes, and what each is called. */
 static void read_each(void)
 {
-    static const uint8_t windows[] = { KALYUBOS_BLOCK, TOOLS, DATA };
+    static const uint8_t windows[] = { KALYUBOS_BLOCK, TOOLS, DATA, LOG, CACHE };
     for (size_t i = 0; i < sizeof windows; i++) {
         uint8_t window = windows[i];
         offer(window, 0, GET_ID, 0);
         offer(window, 1, IN, 1);
-        notify(window, window == KALYUBOS_BLOCK ? KALYUBOS_DONE : KALYUBOS_IO);
-        if (window != KALYUBOS_BLOCK)
+        notify(window, is_hosted(window) ? KALYUBOS_IO : KALYUBOS_DONE);
+        if (is_hosted(window))
             complete(window, 0);
         come_back(window, 2);
         ends(window, 0, OK);
@@ -220,6 +227,35 @@ static void write_both(void)
     come_back(DATA, 1);
     ends(DATA, 0, OK);
     printf("disk %d has \"%s\" now\n", DATA, disks[DATA].bytes + 2 * SECTOR);
+}
+
+/* A disk over the image reads what was written to it, has no sector behind its own, and shares none with another disk. */
+static void write_and_read(uint8_t window, const char *text, uint64_t sector, uint64_t behind, size_t in_image)
+{
+    const uint8_t *image;
+    size_t len;
+    strcpy((char *)buffer(window, 0), text);
+    offer(window, 0, OUT, sector);
+    offer(window, 1, IN, sector);
+    offer(window, 2, IN, behind);
+    notify(window, KALYUBOS_DONE);
+    come_back(window, 3);
+    ends(window, 0, OK);
+    ends(window, 1, OK);
+    ends(window, 2, IOERR);
+    answers(kalyubos_image(&board, &image, &len), KALYUBOS_DONE, "image");
+    need(len == IMAGE_LEN && memcmp(image + in_image * SECTOR, buffer(window, 0), SECTOR) == 0, "the bytes of the image");
+    printf("disk %d reads \"%s\", which sector %zu of the image has\n", window, buffer(window, 1), in_image);
+}
+
+static void write_over_image(void)
+{
+    write_and_read(LOG, "a line", LOG_SECTORS - 1, LOG_SECTORS, SECTORS + LOG_START + LOG_SECTORS - 1);
+    write_and_read(CACHE, "a page", 0, CACHE_SECTORS, SECTORS + CACHE_START);
+    offer(CACHE, 0, IN, 1);
+    notify(CACHE, KALYUBOS_DONE);
+    come_back(CACHE, 1);
+    printf("disk %d has \"%.12s\" behind it\n", CACHE, buffer(CACHE, 0));
 }
 
 /* Three requests of a disk that has two tags, beside one of another disk. */
@@ -287,16 +323,20 @@ static void drop(void)
 
 int main(void)
 {
-    static uint8_t image[LEN];
+    static uint8_t image[IMAGE_LEN];
     struct kalyubos_slot slot = {
-        .size = sizeof slot, .regions = { { MEMORY, MEMORY_LEN } }, .count = SECTORS, .identity = "SYSTEM",
+        .size = sizeof slot, .regions = { { MEMORY, MEMORY_LEN } }, .count = SECTORS, .spare = SPARE, .identity = "SYSTEM",
         .devices = { { .kind = KALYUBOS_DISK, .sectors = SECTORS, .read_only = true, .identity = "TOOLS" },
-                     { .kind = KALYUBOS_DISK, .sectors = SECTORS, .depth = DEPTH, .identity = "DATA" } },
+                     { .kind = KALYUBOS_DISK, .sectors = SECTORS, .depth = DEPTH, .identity = "DATA" },
+                     { .kind = KALYUBOS_IMAGE_DISK, .start = LOG_START, .sectors = LOG_SECTORS, .identity = "LOG" },
+                     { .kind = KALYUBOS_IMAGE_DISK, .start = CACHE_START, .sectors = CACHE_SECTORS, .identity = "CACHE" } },
     };
     struct kalyubos_config config = kalyubos_config(&slot, 1);
     size_t len;
     need(kalyubos_version() == KALYUBOS_VERSION, "the library is of another version than the header");
     strcpy((char *)image + SECTOR, "the system");
+    strcpy((char *)image + (SECTORS + LOG_START + 1) * SECTOR, "the log");
+    strcpy((char *)image + (SECTORS + CACHE_START + 1) * SECTOR, "the cache");
     strcpy((char *)disks[TOOLS].bytes + SECTOR, "the tools");
     strcpy((char *)disks[DATA].bytes + SECTOR, "the data");
     config.image = image;
@@ -306,8 +346,11 @@ int main(void)
     bring_up(KALYUBOS_BLOCK);
     bring_up(TOOLS);
     bring_up(DATA);
+    bring_up(LOG);
+    bring_up(CACHE);
     read_each();
     write_both();
+    write_over_image();
     work_at_once();
     hold();
     drop();

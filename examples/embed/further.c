@@ -9,10 +9,10 @@
 
 #include "kalyubos.h"
 
-enum { MEMORY_LEN = 0x10000, SECTORS = 2, MTU = 68, POOL = 4096, FRAMES = 64, ROOM = 65536, UNTOLD = 0x77 };
+enum { MEMORY_LEN = 0x10000, SECTORS = 2, SPARE = 2, IMAGE_LEN = (SECTORS + SPARE) * 512, MTU = 68, POOL = 4096, FRAMES = 64, ROOM = 65536, UNTOLD = 0x77 };
 enum { QUEUE_READY = 0x044, NOTIFY = 0x050, ACK = 0x064, STATUS = 0x070, DEVICE_ID = 0x008, NEXT = 1, WRITE = 2 };
 /* the windows of guest 0's devices, and of one that it doesn't have */
-enum { ENTROPY = KALYUBOS_DEVICE, CARD, LARGE_CARD, DISK, CONSOLE, NO_WINDOW };
+enum { ENTROPY = KALYUBOS_DEVICE, CARD, LARGE_CARD, DISK, CONSOLE, IMAGE_DISK, NO_WINDOW };
 static const uint64_t MEMORY = 0x80000000;
 
 static struct kalyubos board;
@@ -172,8 +172,8 @@ static void check_no_board(void)
 
 static void check_windows(void)
 {
-    /* (5): a disk, a console, an entropy device, two network cards, a disk, a console */
-    static const uint32_t ids[] = { 2, 3, 4, 1, 1, 2, 3 };
+    /* (5): a disk, a console, an entropy device, two network cards, a disk, a console, a disk */
+    static const uint32_t ids[] = { 2, 3, 4, 1, 1, 2, 3, 2 };
     uint32_t value;
     for (unsigned window = 0; window < 256; window++) {
         uint32_t own = window < NO_WINDOW ? KALYUBOS_DONE : KALYUBOS_BAD_WINDOW;
@@ -191,7 +191,8 @@ static void check_windows(void)
     }
 }
 
-/* Which windows are a disk's: guest 0's own, which is of the image, and its last further device; guest 1's own alone. */
+/* Which windows take the calls for a disk: guest 0's own, which is of the image, and the further one that the host serves; guest 1's
+ * own alone. */
 static void check_disk_windows(void)
 {
     for (unsigned window = 0; window < 256; window++) {
@@ -221,6 +222,7 @@ static void check_kinds(void)
     for (uint8_t window = ENTROPY; window < DISK; window++)
         need(kalyubos_resize_device(&board, 0, window, 80, 25) == KALYUBOS_BAD_WINDOW, "the size of no console", window);
     all_answer(0, DISK, KALYUBOS_BAD_WINDOW, KALYUBOS_DONE);
+    all_answer(0, IMAGE_DISK, KALYUBOS_BAD_WINDOW, KALYUBOS_DONE);
 }
 
 /* ---- what finds room */
@@ -472,6 +474,33 @@ static void check_disk_at_work(void)
     need(store(0, DISK, STATUS, 0) == KALYUBOS_DONE && say(kalyubos_release, 0, DISK) == KALYUBOS_DONE, "a reset and a release", 0);
 }
 
+/* A disk over the image is served within the budget, and asks its host for nothing. It reads what was written to it, which is the image's
+ * last sector, and has no other. */
+static void check_image_disk(void)
+{
+    enum { OUT = 1, OK = 0, IOERR = 1, WRITTEN = 0x5a };
+    static const struct descriptor write[] = { { 0x80000000 + DATA, 16, NEXT, 1 }, { 0x80000000 + DATA + 0x200, 512, NEXT, 2 },
+                                               { 0x80000000 + END, 1, WRITE, 0 } };
+    const uint8_t *bytes;
+    size_t len;
+    memset(memory + DATA, 0, 16);
+    memory[DATA] = OUT;
+    memset(memory + DATA + 0x200, WRITTEN, 512);
+    need(offer(IMAGE_DISK, 0, write, sizeof write, 2) == more, "two writes", used());
+    go_on(IMAGE_DISK, 0, 2, 1);
+    need(kalyubos_image(&board, &bytes, &len) == KALYUBOS_DONE && len == IMAGE_LEN, "the image", len);
+    for (size_t i = 0; i < IMAGE_LEN; i++)
+        need(bytes[i] == (i < IMAGE_LEN - 512 ? 0 : WRITTEN), "a byte of the image", i);
+    memory[DATA] = 0;
+    memset(memory + DATA + 0x200, 0, 512);
+    need(offer(IMAGE_DISK, 0, request, sizeof request, 3) == more, "three reads", used());
+    go_on(IMAGE_DISK, 0, 3, 2);
+    need(memory[END] == OK && memory[DATA + 0x200] == WRITTEN && memory[DATA + 0x3ff] == WRITTEN, "what it reads", memory[END]);
+    memory[DATA + 8] = 1; /* the sector behind its own */
+    need(offer(IMAGE_DISK, 0, request, sizeof request, 1) == KALYUBOS_DONE && used() == 1, "a read behind its end", used());
+    need(memory[END] == IOERR, "its status", memory[END]);
+}
+
 /* While the service of the slot's own disk is paused all calls but those that only tell wait. */
 static void check_pause(void)
 {
@@ -523,6 +552,7 @@ static void check_board(struct kalyubos_config *config, uint32_t chains)
     check_typed();
     check_output();
     check_disk_at_work();
+    check_image_disk();
     if (chains != 0)
         check_pause();
     need(kalyubos_destroy(&board) == KALYUBOS_DONE, "destroy", chains);
@@ -530,12 +560,13 @@ static void check_board(struct kalyubos_config *config, uint32_t chains)
 
 int main(void)
 {
-    static const uint8_t image[SECTORS * 512];
+    static const uint8_t image[IMAGE_LEN];
     struct kalyubos_slot slots[2] = {
-        { .size = sizeof *slots, .regions = { { MEMORY, MEMORY_LEN } }, .count = SECTORS, .outlet = 64,
+        { .size = sizeof *slots, .regions = { { MEMORY, MEMORY_LEN } }, .count = SECTORS, .spare = SPARE, .outlet = 64,
           .devices = { { .kind = KALYUBOS_ENTROPY }, { .kind = KALYUBOS_NETWORK, .mtu = MTU },
                        { .kind = KALYUBOS_NETWORK, .mtu = UINT16_MAX }, { .kind = KALYUBOS_DISK, .sectors = SECTORS },
-                       { .kind = KALYUBOS_CONSOLE_DEVICE, .cols = 80, .rows = 25 } } },
+                       { .kind = KALYUBOS_CONSOLE_DEVICE, .cols = 80, .rows = 25 },
+                       { .kind = KALYUBOS_IMAGE_DISK, .start = SPARE - 1, .sectors = 1 } } },
         { .size = sizeof *slots, .regions = { { MEMORY, MEMORY_LEN } }, .outlet = 64 },
     };
     struct kalyubos_config config = kalyubos_config(slots, 2);
@@ -544,6 +575,6 @@ int main(void)
     config.image_len = sizeof image;
     check_board(&config, 1);
     check_board(&config, 0);
-    puts("further: 256 windows of a guest with five further devices and one with none; what finds room; a disk at work; pauses");
+    puts("further: 256 windows of a guest with six further devices and one with none; what finds room; a disk at work; pauses");
     return 0;
 }

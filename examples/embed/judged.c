@@ -8,7 +8,7 @@
 
 #include "shut_heap.h"
 
-enum { CONFIG = 72, SIZE = 528, PAGE = 0x1000, TOO_LARGE = (1 << 24) + 1, SECTORS = 4, IMAGE = SECTORS * 512 };
+enum { CONFIG = 72, SIZE = 584, PAGE = 0x1000, TOO_LARGE = (1 << 24) + 1, SECTORS = 4, IMAGE = SECTORS * 512 };
 enum { UNTOLD = 99 };
 
 _Static_assert(sizeof(struct kalyubos_config) == CONFIG, "a config of this version has 72 bytes");
@@ -19,7 +19,7 @@ static const uint8_t image[IMAGE];
 static bool is_judged_first(uint32_t answer)
 {
     return answer == KALYUBOS_BAD_SIZE || answer == KALYUBOS_RUNS_ON || answer == KALYUBOS_BAD_LOAN || answer == KALYUBOS_BAD_IMAGE ||
-           answer == KALYUBOS_BAD_OUTLET || answer == KALYUBOS_BAD_DEVICE;
+           answer == KALYUBOS_BAD_OUTLET || answer == KALYUBOS_BAD_DEVICE || answer == KALYUBOS_BAD_EXTENT;
 }
 
 /* What an answer isn't about is left, and no loan is taken. */
@@ -209,7 +209,79 @@ static void check_devices(void)
     }
 }
 
-/* Outlets are judged before them, and the memory behind them. */
+/* ---- further disks over the image: of the second slot, which has so many spare sectors */
+
+#define OVER(its_start, its_sectors) { .kind = KALYUBOS_IMAGE_DISK, .start = its_start, .sectors = its_sectors }
+
+static const struct {
+    uint64_t spare;
+    bool hosted;
+    struct kalyubos_device devices[KALYUBOS_DEVICES];
+    uint32_t answer;
+} EXTENTS[] = {
+    { SECTORS, false, { OVER(0, SECTORS) }, KALYUBOS_DONE },
+    { SECTORS, false, { OVER(0, 2), OVER(2, 2) }, KALYUBOS_DONE },
+    { SECTORS, false, { OVER(3, 1), ONLY_ENTROPY, OVER(1, 1), DISK_OF(SECTORS, 1), OVER(0, 1), OVER(2, 1) }, KALYUBOS_DONE },
+    { SECTORS, false, { OVER(0, 0) }, KALYUBOS_BAD_EXTENT },
+    { SECTORS, false, { OVER(SECTORS, 0) }, KALYUBOS_BAD_EXTENT },
+    { SECTORS, false, { OVER(0, SECTORS + 1) }, KALYUBOS_BAD_EXTENT },
+    { SECTORS, false, { OVER(SECTORS, 1) }, KALYUBOS_BAD_EXTENT },
+    { SECTORS, false, { OVER(UINT64_MAX, 1) }, KALYUBOS_BAD_EXTENT },
+    { SECTORS, false, { OVER(1, UINT64_MAX) }, KALYUBOS_BAD_EXTENT },
+    { SECTORS, false, { OVER(UINT64_MAX, UINT64_MAX) }, KALYUBOS_BAD_EXTENT },
+    { SECTORS, false, { OVER(0, 2), OVER(1, 1) }, KALYUBOS_BAD_EXTENT },
+    { SECTORS, false, { OVER(1, 1), OVER(0, 3) }, KALYUBOS_BAD_EXTENT },
+    { SECTORS, false, { OVER(1, 2), ONLY_ENTROPY, OVER(0, 1), OVER(2, 1) }, KALYUBOS_BAD_EXTENT },
+    { SECTORS, false, { OVER(0, 1), OVER(0, 1) }, KALYUBOS_BAD_EXTENT },
+    { 0, false, { OVER(0, 1) }, KALYUBOS_BAD_EXTENT },
+    { SECTORS, true, { OVER(0, 1) }, KALYUBOS_BAD_EXTENT },
+    /* of a slot whose disk the host serves the spare sectors aren't read, and of a disk over the image the depth isn't */
+    { UINT64_MAX, true, { ONLY_ENTROPY }, KALYUBOS_DONE },
+    { SECTORS, false, { { .kind = KALYUBOS_IMAGE_DISK, .sectors = 1, .depth = 65 } }, KALYUBOS_DONE },
+    { SECTORS, false, { { .kind = KALYUBOS_ENTROPY, .start = UINT64_MAX }, OVER(0, 1), { .kind = 0 }, OVER(0, 0) }, KALYUBOS_DONE },
+    /* what is spare is judged behind the disks */
+    { SECTORS + 1, false, { OVER(0, SECTORS + 1) }, KALYUBOS_EXTENT_OUTSIDE },
+    { UINT64_MAX, false, { OVER(UINT64_MAX - 1, 1) }, KALYUBOS_EXTENT_OUTSIDE },
+    { SECTORS + 1, false, { OVER(0, 0) }, KALYUBOS_BAD_EXTENT },
+};
+enum { EXTENTS_LEN = sizeof EXTENTS / sizeof *EXTENTS };
+
+static void check_extents(void)
+{
+    for (size_t i = 0; i < EXTENTS_LEN; i++) {
+        struct kalyubos_slot slots[2] = {
+            { .size = SIZE, .regions = { { 0, PAGE } } },
+            { .size = SIZE, .regions = { { 0, PAGE } }, .spare = EXTENTS[i].spare, .hosted = EXTENTS[i].hosted },
+        };
+        memcpy(slots[1].devices, EXTENTS[i].devices, sizeof slots[1].devices);
+        size_t slot = EXTENTS[i].answer == KALYUBOS_DONE ? UNTOLD : 1;
+        check(over_image(slots, 2, image, IMAGE), EXTENTS[i].answer, (struct place){ slot, UNTOLD }, i);
+    }
+}
+
+/* Two slots share no spare sector, and a spare one is no disk's. */
+static void check_spare(void)
+{
+    static const struct { uint64_t start[2], count[2], spare[2]; uint32_t answer; } ROWS[] = {
+        { { 0, 2 }, { 1, 1 }, { 1, 1 }, KALYUBOS_DONE },
+        { { 2, 0 }, { 2, 0 }, { 0, 2 }, KALYUBOS_DONE },
+        { { 0, 2 }, { 1, 1 }, { 2, 1 }, KALYUBOS_EXTENTS_OVERLAP },
+        { { 0, 0 }, { 0, 0 }, { 2, 1 }, KALYUBOS_EXTENTS_OVERLAP },
+        { { 3, 0 }, { 1, 1 }, { 0, 3 }, KALYUBOS_EXTENTS_OVERLAP },
+        { { 0, 2 }, { 1, 1 }, { 1, 2 }, KALYUBOS_EXTENT_OUTSIDE },
+    };
+    for (size_t i = 0; i < sizeof ROWS / sizeof *ROWS; i++) {
+        struct kalyubos_slot slots[2];
+        for (int j = 0; j < 2; j++)
+            slots[j] = (struct kalyubos_slot){
+                .size = SIZE, .regions = { { 0, PAGE } }, .start = ROWS[i].start[j], .count = ROWS[i].count[j], .spare = ROWS[i].spare[j],
+            };
+        size_t slot = ROWS[i].answer == KALYUBOS_DONE ? UNTOLD : 1;
+        check(over_image(slots, 2, image, IMAGE), ROWS[i].answer, (struct place){ slot, UNTOLD }, i);
+    }
+}
+
+/* Outlets are judged before further devices, those over the image behind the others, and the memory behind all. */
 static void check_beside_devices(void)
 {
     struct kalyubos_slot slots[2] = {
@@ -219,8 +291,13 @@ static void check_beside_devices(void)
     check(over_image(slots, 2, image, 0), KALYUBOS_BAD_OUTLET, (struct place){ 1, UNTOLD }, 0);
     slots[1].outlet = 0;
     check(over_image(slots, 2, image, 0), KALYUBOS_BAD_DEVICE, (struct place){ 0, UNTOLD }, 1);
-    slots[0].devices[0].mtu = 68;
-    check(over_image(slots, 2, image, 0), KALYUBOS_BAD_MEMORY_SIZE, (struct place){ 0, 0 }, 2);
+    slots[0].devices[0] = (struct kalyubos_device)OVER(0, 1);
+    slots[1].devices[0] = (struct kalyubos_device)CARD_OF(67);
+    check(over_image(slots, 2, image, 0), KALYUBOS_BAD_DEVICE, (struct place){ 1, UNTOLD }, 2);
+    slots[1].devices[0].mtu = 68;
+    check(over_image(slots, 2, image, 0), KALYUBOS_BAD_EXTENT, (struct place){ 0, UNTOLD }, 3);
+    slots[0].devices[0].kind = KALYUBOS_ENTROPY;
+    check(over_image(slots, 2, image, 0), KALYUBOS_BAD_MEMORY_SIZE, (struct place){ 0, 0 }, 4);
 }
 
 /* ---- the config's own fields, of one slot: its size comes before the slot's, loans before the image */
@@ -282,9 +359,11 @@ int main(void)
     check_disks();
     check_before_depth();
     check_devices();
+    check_extents();
+    check_spare();
     check_beside_devices();
     check_configs();
-    printf("judged: %d pairs of slots, with disks of either kind, %d pairs of disks, %d of further devices, %d configs; create alike\n",
-           PAIRS_LEN, DISKS_LEN, DEVICES_LEN, CONFIGS_LEN);
+    printf("judged: %d pairs of slots, with disks of either kind, %d pairs of disks, %d of further devices, %d lists of disks over the "
+           "image, %d configs; create alike\n", PAIRS_LEN, DISKS_LEN, DEVICES_LEN, EXTENTS_LEN, CONFIGS_LEN);
     return 0;
 }

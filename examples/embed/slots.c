@@ -8,9 +8,9 @@
 
 #include "shut_heap.h"
 
-enum { MOST = 64, MEMORY_LEN = 0x7000, SIZE = 528, HOLD = 0xff };
+enum { MOST = 64, MEMORY_LEN = 0x7000, SIZE = 584, HOLD = 0xff };
 
-_Static_assert(sizeof(struct kalyubos_slot) == SIZE, "a slot of this version has 528 bytes");
+_Static_assert(sizeof(struct kalyubos_slot) == SIZE, "a slot of this version has 584 bytes");
 
 static const uint64_t MEMORY = 0x80000000;
 static uint8_t image[512];

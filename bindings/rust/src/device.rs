@@ -30,6 +30,17 @@ pub enum Device {
         /// How many operations may be in flight, 1 to 64; 0 is 1.
         depth: u32,
     },
+    /// A disk over some of the slot's [spare sectors](crate::Slot::with_spare) of the image.
+    ImageDisk {
+        /// Which of them is its first, from 0 on.
+        start: u64,
+        /// How many it has: one at least, and none that another disk has.
+        sectors: u64,
+        /// Whether it refuses writes.
+        read_only: bool,
+        /// What it answers to GET_ID.
+        identity: Identity,
+    },
     /// A console of this size in characters, beside the slot's own.
     Console {
         /// Its columns.
@@ -40,7 +51,7 @@ pub enum Device {
 }
 
 impl Device {
-    // The device as C has it, with the standard's number of its kind.
+    // The device as C has it, with the standard's number of its kind; a disk over the image has one of its own.
     pub(crate) fn in_c(self) -> ffi::Device {
         match self {
             Device::Entropy => ffi::Device {
@@ -62,6 +73,19 @@ impl Device {
                 kind: 2,
                 depth,
                 sectors,
+                identity: *identity.bytes(),
+                read_only,
+                ..ffi::Device::default()
+            },
+            Device::ImageDisk {
+                start,
+                sectors,
+                read_only,
+                identity,
+            } => ffi::Device {
+                kind: 258,
+                sectors,
+                start,
                 identity: *identity.bytes(),
                 read_only,
                 ..ffi::Device::default()

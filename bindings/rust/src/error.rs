@@ -84,9 +84,11 @@ pub enum CreateError {
     BadOutlet,
     /// A disk that the host serves has a depth above 64.
     BadDepth,
-    /// A network card has an MTU below 68, or a disk 2^55 sectors or more or a depth above 64. Or a
+    /// A network card has an MTU below 68, or a disk that the host serves 2^55 sectors or more or a depth above 64. Or a
     /// [guest that runs on](crate::RunningGuest) has a further device.
     BadDevice,
+    /// A disk over the image has no sectors, one that isn't a spare one of its slot, or one that another disk has.
+    BadExtent,
     /// A slot has more than six further devices.
     TooManyDevices,
     /// The lent bytes have another number or length than the regions; see [`Board::over_lent`](crate::Board::over_lent). So
@@ -181,6 +183,7 @@ impl CreateError {
             30 => BadDepth,
             32 => BadDevice,
             33 => NotHosted,
+            35 => BadExtent,
             number => Other(number),
         })
     }
@@ -246,6 +249,9 @@ impl fmt::Display for CreateError {
             BadDepth => "a disk that the host serves has 1 to 64 operations in flight",
             BadDevice => {
                 "a network card has an MTU of 68 or more, and a disk fewer than 2^55 sectors and a depth of 1 to 64; a guest that runs on has none"
+            }
+            BadExtent => {
+                "a disk over the image has one or more spare sectors of its slot, which no other disk has"
             }
             TooManyDevices => "a slot has six further devices at most",
             BadLoan => "each region of each slot needs lent bytes of its length",

@@ -23,6 +23,7 @@ pub struct Region {
 pub struct Slot {
     regions: Vec<Region>,
     sectors: Range<u64>,
+    spare: u64,
     cols: u16,
     rows: u16,
     outlet: u32,
@@ -47,6 +48,7 @@ impl Slot {
         Slot {
             regions: vec![Region { base, len }],
             sectors,
+            spare: 0,
             cols: 80,
             rows: 25,
             outlet: 0x8000,
@@ -102,6 +104,23 @@ impl Slot {
         self
     }
 
+    /// How many sectors of the image behind those of its disk are its too, for further disks
+    /// ([`Device::ImageDisk`](crate::Device::ImageDisk)). Where the host serves its disk there are none.
+    ///
+    /// ```
+    /// use kalyubos::{Board, Config, Device, Identity, Slot, Window};
+    ///
+    /// let log = Device::ImageDisk { start: 0, sectors: 2, read_only: false, identity: Identity::default() };
+    /// let guest = Slot::new(0x8000_0000, 0x1_0000, 0..8).with_spare(2).with_device(log);
+    /// let board = Board::create(&Config::new(&[guest]).with_image(&[0; 10 * 512]))?;
+    /// assert_eq!(board.read(0, Window::Device(0), 0x100, 4)?, 2); // its capacity
+    /// # Ok::<(), Box<dyn std::error::Error>>(())
+    /// ```
+    pub fn with_spare(mut self, sectors: u64) -> Slot {
+        self.spare = sectors;
+        self
+    }
+
     /// How many operations of its disk may be in flight where the host serves it, 1 to 64; 0 is 1. Of a disk of the image it
     /// says nothing.
     pub fn with_depth(mut self, operations: u32) -> Slot {
@@ -141,6 +160,12 @@ impl Slot {
     #[must_use]
     pub fn sectors(&self) -> Range<u64> {
         self.sectors.clone()
+    }
+
+    /// How many sectors of the image behind them are its too.
+    #[must_use]
+    pub fn spare(&self) -> u64 {
+        self.spare
     }
 
     /// Whether the host serves its disk.
@@ -208,6 +233,7 @@ impl Slot {
             regions,
             start: self.sectors.start,
             count: self.sectors.end.saturating_sub(self.sectors.start),
+            spare: self.spare,
             cols: self.cols,
             rows: self.rows,
             outlet: self.outlet,

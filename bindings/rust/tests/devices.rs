@@ -110,6 +110,23 @@ fn what_no_slot_has_is_refused() {
         let disk = disk_of(sectors, depth);
         assert_eq!(refused(slot().with_device(disk)), CreateError::BadDevice);
     }
+    for (start, sectors) in [(0, 0), (3, 1), (0, 4), (u64::MAX, 2), (1, 1)] {
+        let slot = Slot::new(MEMORY, LEN, 0..0).with_spare(3);
+        let slot = slot.with_device(over_image(1, 2));
+        let slot = slot.with_device(over_image(start, sectors));
+        assert_eq!(refused(slot), CreateError::BadExtent);
+    }
+    let hosted = slot().with_spare(3).with_device(over_image(0, 1));
+    assert_eq!(refused(hosted), CreateError::BadExtent);
+}
+
+fn over_image(start: u64, sectors: u64) -> Device {
+    Device::ImageDisk {
+        start,
+        sectors,
+        read_only: false,
+        identity: "spare".parse().expect("an identity"),
+    }
 }
 
 fn disk_of(sectors: u64, depth: u32) -> Device {
@@ -121,11 +138,18 @@ fn disk_of(sectors: u64, depth: u32) -> Device {
     }
 }
 
-/// A driver brings a disk's queue of four up, and asks for its sector 3.
+/// A driver brings a disk's queue of four up, and asks its host for its sector 3.
 fn ask(board: &mut Board, device: u8) {
+    request(board, device, 0, 3, true);
+}
+
+/// A driver brings a disk's queue of four up, and makes a request of a sector, whose bytes lie at 0x1000: type 0 reads it, and type 1
+/// writes it.
+fn request(board: &mut Board, device: u8, kind: u8, sector: u8, io: bool) {
     let memory = board.memory(0, MEMORY).expect("a memory");
     memory[..0x600].fill(0);
-    for (i, (at, len, flags)) in [(0x400u64, 16u32, 1u8), (0x1000, 512, 3), (0x500, 1, 2)]
+    let data = if kind == 0 { 3 } else { 1 };
+    for (i, (at, len, flags)) in [(0x400u64, 16u32, 1u8), (0x1000, 512, data), (0x500, 1, 2)]
         .into_iter()
         .enumerate()
     {
@@ -135,7 +159,8 @@ fn ask(board: &mut Board, device: u8) {
         descriptor[12] = flags;
         descriptor[14] = i as u8 + 1;
     }
-    memory[0x408] = 3;
+    memory[0x400] = kind;
+    memory[0x408] = sector;
     memory[0x202] = 1;
     memory[0x500] = 0xff;
     let at = MEMORY as u32;
@@ -157,7 +182,7 @@ fn ask(board: &mut Board, device: u8) {
     ] {
         let window = Window::Device(device);
         let pending = board.write(0, window, offset, 4, value).expect("a store");
-        assert_eq!((pending.more, pending.io), (false, offset == NOTIFY));
+        assert_eq!((pending.more, pending.io), (false, io && offset == NOTIFY));
     }
 }
 
@@ -190,6 +215,43 @@ fn a_disk_is_asked_by_its_window() {
     assert_eq!(board.operation(0, window, 0), Ok(None));
     let completed = board.complete(0, window, 0, Outcome::Done);
     assert_eq!(completed, Err(Error::Idle));
+}
+
+#[test]
+fn disks_over_the_image_read_what_was_written_to_them() {
+    let slot = Slot::new(MEMORY, LEN, 0..2).with_spare(3);
+    assert_eq!((slot.sectors(), slot.spare()), (0..2, 3));
+    let slot = slot
+        .with_device(over_image(1, 2))
+        .with_device(over_image(0, 1));
+    let image = vec![0; 5 * 512];
+    let mut board = Board::create(&Config::new(&[slot]).with_image(&image)).expect("a board");
+    // the last sector of each: 1 of the first, which is 4 of the image, and 0 of the second, which is 2
+    for (device, sector, at, byte) in [(0, 1, 4, 5), (1, 0, 2, 6)] {
+        board.memory(0, MEMORY + 0x1000).unwrap()[..512].fill(byte);
+        request(&mut board, device, 1, sector, false);
+        board.memory(0, MEMORY + 0x1000).unwrap()[..512].fill(0);
+        request(&mut board, device, 0, sector, false);
+        assert_eq!(board.memory(0, MEMORY + 0x500).unwrap()[0], 0);
+        let read = board.memory(0, MEMORY + 0x1000).unwrap()[..512].to_vec();
+        assert_eq!(read, [byte; 512]);
+        assert_eq!(board.image().unwrap()[512 * at..][..512], read);
+        request(&mut board, device, 0, sector + 1, false);
+        assert_eq!(board.memory(0, MEMORY + 0x500).unwrap()[0], 1); // IOERR
+        let pending = board.device_pending(0, device).unwrap();
+        assert_eq!((pending.interrupt, pending.tags.len()), (1, 0));
+        assert_eq!(
+            board.in_flight(0, Window::Device(device)),
+            Err(Error::BadDevice)
+        );
+    }
+    let written: usize = board
+        .image()
+        .unwrap()
+        .iter()
+        .filter(|byte| **byte != 0)
+        .count();
+    assert_eq!(written, 2 * 512);
 }
 
 #[test]

@@ -69,11 +69,13 @@ const char *kalyubos_answer(uint32_t number)
     case KALYUBOS_OTHER_DEVICES:
         return "the snapshot has other devices";
     case KALYUBOS_BAD_DEVICE:
-        return "a further device is an entropy device, a card of an MTU of 68 or more, or a disk below 2^55 sectors and depth 65";
+        return "a further device is of a known kind, a card's MTU 68 or more, and the host's disk below 2^55 sectors and depth 65";
     case KALYUBOS_NOT_HOSTED:
         return "the host serves the disk of a guest that runs on: set the slot's `hosted`";
     case KALYUBOS_RUNS_ON:
         return "a guest that runs on is on no board: kalyubos_guest_create makes it";
+    case KALYUBOS_BAD_EXTENT:
+        return "a disk over the image has one or more spare sectors of its slot, which no other disk has";
     default:
         return "a number that this version of kalyubos.h doesn't know";
     }

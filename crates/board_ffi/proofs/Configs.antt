@@ -14,11 +14,12 @@ use Rattle.board.specs.Fault.{IsAccepted, Refuses}
 use Rattle.board.specs.Lent.{AreBytesOf}
 use Rattle.board.proofs.Faults.{one_fault}
 use Rattle.session.specs.declared.fault.SessionFault.{SessionFault}
-use Rattle.session.specs.declared.fault.SessionFault.TheVariants.{BadLoan, BadImage, BadOutlet, BadDevice, SpentBudget, Board, NoMemory}
+use Rattle.session.specs.declared.fault.SessionFault.TheVariants.{BadLoan, BadImage, BadOutlet, BadDevice, BadExtent, SpentBudget, Board, NoMemory}
 use Rattle.session.specs.declared.guest.GuestSpec.{GuestSpec}
 use Rattle.session.specs.Session.{new_session, new_session_over, slots_of}
+use Rattle.session.specs.ImageDisks.{AreImageDisks}
 use Rattle.session.specs.Refusing.{AreDevices, AreOutlets, IsLentRefusedFor, IsRefusedFor}
-use Rattle.session.proofs.Refusals.{lent_refused, only_device, only_image, only_outlet, only_spent}
+use Rattle.session.proofs.Refusals.{lent_refused, only_device, only_extent, only_image, only_outlet, only_spent}
 use Rattle.board_ffi.specs.declared.config.Config.{Config}
 use Rattle.board_ffi.specs.declared.config.ToldConfig.{ToldConfig}
 use Rattle.c_values.specs.Limits.{limit_of}
@@ -37,30 +38,33 @@ module _ (guests : List GuestSpec) (image : List ℕ) (cache : ℕ) (budget : Bu
   one told BadImage t w other = inl (only_image guests image cache budget told w t)
   one told BadOutlet t w other = inl (only_outlet guests image cache budget told w t)
   one told BadDevice t w other = inl (only_device guests image cache budget told w t)
+  one told BadExtent t w other = inl (only_extent guests image cache budget told w t)
   one told SpentBudget t w other = inl (only_spent guests image cache budget told w t)
   one told NoMemory t w other = absurd (other refl)
   one BadLoan (Board fault) t w other = absurd t
   one BadImage (Board fault) t w other = absurd (t w.whole)
   one BadOutlet (Board fault) t w other = absurd (t.1 w.outlets)
   one BadDevice (Board fault) t w other = absurd (t.2 w.devices)
-  one SpentBudget (Board fault) t w other = absurd (w.lasts t.3)
+  one BadExtent (Board fault) t w other = absurd (t.3 w.image_disks)
+  one SpentBudget (Board fault) t w other = absurd (w.lasts t.4)
   one (Board fault) (Board another) t w other =
       inl (ap Board (one_fault (length image / 512) (slots_of guests) cache fault another t.refused w.refused))
   one NoMemory (Board fault) t w other = inr refl
 
   -- what can be had is refused for want of memory alone
-  fine : length image % 512 ≡ 0 → AreOutlets guests → AreDevices guests
+  fine : length image % 512 ≡ 0 → AreOutlets guests → AreDevices guests → AreImageDisks guests
       → IsAccepted (length image / 512) (slots_of guests) cache → ¬ IsSpent budget → (told : SessionFault)
       → Refused told → told ≡ NoMemory
-  fine whole outlets devices accepted lasts BadLoan t = absurd t
-  fine whole outlets devices accepted lasts BadImage t = absurd (t whole)
-  fine whole outlets devices accepted lasts BadOutlet t = absurd (t.1 outlets)
-  fine whole outlets devices accepted lasts BadDevice t = absurd (t.2 devices)
-  fine whole outlets devices accepted lasts SpentBudget t = absurd (lasts t.3)
-  fine whole outlets devices accepted lasts (Board fault) t =
+  fine whole outlets devices disks accepted lasts BadLoan t = absurd t
+  fine whole outlets devices disks accepted lasts BadImage t = absurd (t whole)
+  fine whole outlets devices disks accepted lasts BadOutlet t = absurd (t.1 outlets)
+  fine whole outlets devices disks accepted lasts BadDevice t = absurd (t.2 devices)
+  fine whole outlets devices disks accepted lasts BadExtent t = absurd (t.3 disks)
+  fine whole outlets devices disks accepted lasts SpentBudget t = absurd (lasts t.4)
+  fine whole outlets devices disks accepted lasts (Board fault) t =
       absurd (t.other (one_fault (length image / 512) (slots_of guests) cache fault BoardFault.NoMemory t.refused
       (accepted.slots_good, accepted.capacity)))
-  fine whole outlets devices accepted lasts NoMemory t = refl
+  fine whole outlets devices disks accepted lasts NoMemory t = refl
 
   module _ (bytes : List (List ℕ)) where
     abbrev Lent : SessionFault → Type 0
@@ -81,12 +85,12 @@ module _ (guests : List GuestSpec) (image : List ℕ) (cache : ℕ) (budget : Bu
     of_two told why (inr t) (inl w) other = absurd (w.1 t.0)
     of_two told why (inr t) (inr w) other = one told why t.1 w.1 other
 
-    fine_lent : Are → length image % 512 ≡ 0 → AreOutlets guests → AreDevices guests
+    fine_lent : Are → length image % 512 ≡ 0 → AreOutlets guests → AreDevices guests → AreImageDisks guests
         → IsAccepted (length image / 512) (slots_of guests) cache → ¬ IsSpent budget → (told : SessionFault)
         → ((told ≡ BadLoan) × ¬ Are) ⊎ (Are × Refused told) → told ≡ NoMemory
-    fine_lent are whole outlets devices accepted lasts told (inl t) = absurd (t.1 are)
-    fine_lent are whole outlets devices accepted lasts told (inr t) =
-        fine whole outlets devices accepted lasts told t.1
+    fine_lent are whole outlets devices disks accepted lasts told (inl t) = absurd (t.1 are)
+    fine_lent are whole outlets devices disks accepted lasts told (inr t) =
+        fine whole outlets devices disks accepted lasts told t.1
 
   once : (bytes : List (List ℕ)) (told why : SessionFault) → RefusedBy guests bytes image cache budget told
       → RefusedBy guests bytes image cache budget why → why ≢ NoMemory → (told ≡ why) ⊎ (told ≡ NoMemory)
@@ -95,13 +99,13 @@ module _ (guests : List GuestSpec) (image : List ℕ) (cache : ℕ) (budget : Bu
       of_two (run ∷ bytes) told why (parted (run ∷ bytes) told t) (parted (run ∷ bytes) why w) other
 
   never : (bytes : List (List ℕ)) → AreLent guests (map (λ run. length run) bytes) → length image % 512 ≡ 0
-      → AreOutlets guests → AreDevices guests → IsAccepted (length image / 512) (slots_of guests) cache
-      → ¬ IsSpent budget → (told : SessionFault) → RefusedBy guests bytes image cache budget told
-      → told ≡ NoMemory
-  never [] lent whole outlets devices accepted lasts told t = fine whole outlets devices accepted lasts told t
-  never (run ∷ bytes) (inl none) whole outlets devices accepted lasts told t = absurd (cc (none))
-  never (run ∷ bytes) (inr are) whole outlets devices accepted lasts told t =
-      fine_lent (run ∷ bytes) are whole outlets devices accepted lasts told (parted (run ∷ bytes) told t)
+      → AreOutlets guests → AreDevices guests → AreImageDisks guests
+      → IsAccepted (length image / 512) (slots_of guests) cache → ¬ IsSpent budget → (told : SessionFault)
+      → RefusedBy guests bytes image cache budget told → told ≡ NoMemory
+  never [] lent whole outlets devices disks accepted lasts told t = fine whole outlets devices disks accepted lasts told t
+  never (run ∷ bytes) (inl none) whole outlets devices disks accepted lasts told t = absurd (cc (none))
+  never (run ∷ bytes) (inr are) whole outlets devices disks accepted lasts told t =
+      fine_lent (run ∷ bytes) are whole outlets devices disks accepted lasts told (parted (run ∷ bytes) told t)
 
   -- what is judged of the guests is so whatever is lent
   pub by_either : (bytes : List (List ℕ)) (why : SessionFault) → AreLent guests (map (λ run. length run) bytes)
@@ -140,8 +144,8 @@ pub good_refused : (config : Config) → IsGood config → (told : SessionFault)
 good_refused config good told (inl t) = t.0
 good_refused config good told (inr t) =
     never (guests_of config.slots.now) config.image.now config.cache (budget_of config)
-    (lent_bytes config.loans.now) good.loans good.whole good.outlets good.devices good.accepted (unspent config)
-    told t
+    (lent_bytes config.loans.now) good.loans good.whole good.outlets good.devices good.image_disks good.accepted
+    (unspent config) told t
 
 -- a session that is made is what was described, by its verdict
 pub made_by : (config : Config) → IsSized config → StandStill config.slots.now → IsGood config → (verdict : Verdict)
@@ -194,7 +198,8 @@ module _ (guests : List GuestSpec) (image : List ℕ) (cache : ℕ) (budget : Bu
 pub good_wants : (config : Config) → IsGood config → IsRefused config NoMemory
 good_wants config good =
     by_either (guests_of config.slots.now) config.image.now config.cache (budget_of config)
-    (lent_bytes config.loans.now) NoMemory good.loans (good.whole, good.outlets, good.devices, unspent config)
+    (lent_bytes config.loans.now) NoMemory good.loans
+    (good.whole, good.outlets, good.devices, good.image_disks, unspent config)
 
 -- no board's fault that stands whatever the cache is want of memory
 pub no_want : (sectors : ℕ) (slots : List SlotSpec) (fault : BoardFault)
@@ -215,13 +220,14 @@ module _ (told : ToldConfig) (config : Config) (same : Describes told config) wh
 
   pub good_told : AreLent (guests_of told.slots.now) (told_lens told.loans.now)
       → length told.image.now % 512 ≡ 0 → AreOutlets (guests_of told.slots.now)
-      → AreDevices (guests_of told.slots.now)
+      → AreDevices (guests_of told.slots.now) → AreImageDisks (guests_of told.slots.now)
       → IsAccepted (length told.image.now / 512) (slots_of (guests_of told.slots.now)) told.cache → IsGood config
-  good_told lent whole outlets devices accepted = record {
+  good_told lent whole outlets devices disks accepted = record {
     loans = rw (same.slots, same.loans) lent;
     whole = rw (same.image) whole;
     outlets = rw (same.slots) outlets;
     devices = rw (same.slots) devices;
+    image_disks = rw (same.slots) disks;
     accepted = rw (same.slots, same.image, same.cache) accepted;
   }
 

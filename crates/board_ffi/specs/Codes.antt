@@ -140,6 +140,7 @@ fault_code session.BadLoan = 29
 fault_code session.BadImage = 7
 fault_code session.BadOutlet = 16
 fault_code session.BadDevice = 32
+fault_code session.BadExtent = 35
 -- no budget that C describes is spent
 fault_code session.SpentBudget = 0
 fault_code (session.Board why) = board_code why

@@ -11,6 +11,7 @@ use Rattle.board.specs.Lent.{all_regions}
 use Rattle.session.specs.declared.fault.SessionFault.{SessionFault}
 use Rattle.session.specs.declared.guest.GuestSpec.{GuestSpec}
 use Rattle.session.specs.Session.{SessionState, new_session, new_session_over, slots_of}
+use Rattle.session.specs.ImageDisks.{AreImageDisks}
 use Rattle.session.specs.Refusing.{AreDevices, AreOutlets, IsLentRefusedFor, IsRefusedFor}
 use Rattle.board_ffi.specs.declared.config.Config.{Config}
 use Rattle.board_ffi.specs.declared.config.ToldConfig.{ToldConfig}
@@ -27,13 +28,19 @@ backing_of hosted depth = if hosted then Backing.Host (depth_of depth) else Back
 abbrev pub disk_of : Device → DeviceSpec
 disk_of device = DeviceSpec.Block device.sectors device.read_only device.identity (depth_of device.depth)
 
--- A further device, if it is one, by its type (VIRTIO 1.2, 5): 1 is a network card, 2 a disk, 3 a console, and 4 an entropy
--- device. One of a type that isn't known is a card whose MTU no slot takes.
+-- and one over spare sectors of the image
+abbrev pub image_disk_of : Device → DeviceSpec
+image_disk_of device =
+    DeviceSpec.Image (record { start = device.start; count = device.sectors }) device.read_only device.identity
+
+-- A further device, if it is one, by its type (VIRTIO 1.2, 5): 1 is a network card, 2 a disk that the host serves, 3 a console,
+-- and 4 an entropy device; 258 is a disk over the image. One of a type that isn't known is a card whose MTU no slot takes.
 abbrev pub device_of : Device → Option DeviceSpec
 device_of device =
     if device.kind == 0 then None
     else if device.kind == 4 then Some DeviceSpec.Entropy
     else if device.kind == 2 then Some (disk_of device)
+    else if device.kind == 258 then Some (image_disk_of device)
     else if device.kind == 3 then Some (DeviceSpec.Console device.cols device.rows)
     else Some (DeviceSpec.Network device.mac (if device.kind == 1 then device.mtu else 0))
 
@@ -43,6 +50,7 @@ guest_of slot = record {
   slot = record {
     regions = regions_of slot.regions;
     extent = record { start = slot.start; count = slot.count };
+    spare = slot.spare;
     backing = backing_of slot.hosted slot.depth;
     read_only = slot.read_only;
     cols = slot.cols;
@@ -115,6 +123,7 @@ pub record IsGood (config : Config) : Type 0 where
   pub whole : length config.image.now % 512 ≡ 0
   pub outlets : AreOutlets (guests_of config.slots.now)
   pub devices : AreDevices (guests_of config.slots.now)
+  pub image_disks : AreImageDisks (guests_of config.slots.now)
   pub accepted :
       IsAccepted (length config.image.now / 512) (slots_of (guests_of config.slots.now)) config.cache
 

@@ -4,7 +4,8 @@ use Rattle.std.specs.List.{prefix_len}
 use Rattle.guest_memory.specs.declared.fault.MemoryFault.TheVariants.{NoRegions}
 use Rattle.board.specs.declared.fault.BoardFault.TheVariants.{Slot as AtSlot}
 use Rattle.board.specs.declared.fault.SlotFault.TheVariants.{Memory}
-use Rattle.session.specs.declared.fault.SessionFault.TheVariants.{BadDevice, BadOutlet, Board}
+use Rattle.session.specs.declared.fault.SessionFault.TheVariants.{BadDevice, BadExtent, BadOutlet, Board}
+use Rattle.session.specs.ImageDisks.{has_bad_image_disk}
 use Rattle.session.specs.Refusing.{has_bad_device}
 use Rattle.board_ffi.specs.declared.config.Config.{Config}
 use Rattle.board_ffi.specs.declared.config.ToldConfig.{ToldConfig}
@@ -31,6 +32,10 @@ first_of_large_outlet = prefix_len (λ slot. nat_le slot.outlet most_waiting)
 abbrev pub first_of_bad_device : List Slot → ℕ
 first_of_bad_device = prefix_len (λ slot. not (has_bad_device (guest_of slot)))
 
+-- and of the first with a further disk over the image of sectors that it can't have
+abbrev pub first_of_bad_image_disk : List Slot → ℕ
+first_of_bad_image_disk = prefix_len (λ slot. not (has_bad_image_disk (guest_of slot)))
+
 -- the slot that a verdict is about, where it is about one, and else what stood there
 abbrev pub slot_told : ToldConfig → Verdict → ℕ → ℕ
 slot_told config OtherSize before =
@@ -38,6 +43,7 @@ slot_told config OtherSize before =
 slot_told config RunsOn before = first_that_runs config.slots.now
 slot_told config (Bad BadOutlet) before = first_of_large_outlet config.slots.now
 slot_told config (Bad BadDevice) before = first_of_bad_device config.slots.now
+slot_told config (Bad BadExtent) before = first_of_bad_image_disk config.slots.now
 slot_told config (Bad (Board (AtSlot number fault))) before = number
 slot_told config _ before = before
 

@@ -44,6 +44,8 @@ pub(crate) const OTHER_DEVICES: u32 = 31;
 
 pub(crate) const RUNS_ON: u32 = 34;
 
+pub(crate) const BAD_EXTENT: u32 = 35;
+
 /// The number of a call that was refused.
 pub(crate) fn of_refusal(why: Refusal) -> u32
     ensures { result ≡ refusal_code why }
@@ -181,6 +183,7 @@ pub(crate) fn of_fault(why: SessionFault) -> u32
         SessionFault::BadImage => BAD_IMAGE,
         SessionFault::BadOutlet => BAD_OUTLET,
         SessionFault::BadDevice => BAD_DEVICE,
+        SessionFault::BadExtent => BAD_EXTENT,
         // no budget that C describes is spent
         SessionFault::SpentBudget => DONE,
         SessionFault::Board(why) => of_board_fault(why),

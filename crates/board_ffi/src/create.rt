@@ -8,7 +8,7 @@ use crate::codes::{BAD_SIZE, DONE, HAS_BOARD, NO_BOARD, RUNS_ON, of_fault};
 use crate::config::{Config, is_sized};
 use crate::handle::Handle;
 use crate::loans::taken;
-use crate::slot::{are_devices, are_outlets, guests, stand_still};
+use crate::slot::{are_devices, are_image_disks, are_outlets, guests, stand_still};
 use sector_cache::are_whole_sectors;
 use session::{Session, SessionFault};
 use std::alloc::Global;
@@ -121,6 +121,9 @@ fn over_own(alloc: Global, config: &Config<'_>) -> Result<Session, SessionFault>
     }
     if !are_devices(config.slots) {
         return Err(SessionFault::BadDevice);
+    }
+    if !are_image_disks(config.slots) {
+        return Err(SessionFault::BadExtent);
     }
     let Ok(guests) = guests(alloc, config.slots) else {
         return Err(SessionFault::NoMemory);

@@ -15,8 +15,8 @@ use crate::codes::{BAD_SIZE, DONE, RUNS_ON, of_fault};
 use crate::config::{ToldConfig, has_own_size};
 use crate::loans::are_lent;
 use crate::slot::{
-    are_devices, are_outlets, are_sized, guests, sized, stand_still, standing, with_devices,
-    with_outlets,
+    are_devices, are_image_disks, are_outlets, are_sized, guests, sized, stand_still, standing,
+    with_devices, with_image_disks, with_outlets,
 };
 use board::{BoardFault, CacheFault, SlotFault, SlotSpec, check_slots};
 use c_values::Slot;
@@ -81,6 +81,9 @@ fn judged(alloc: Global, config: &ToldConfig<'_>) -> Result<(), SessionFault>
     if !are_devices(config.slots) {
         return Err(SessionFault::BadDevice);
     }
+    if !are_image_disks(config.slots) {
+        return Err(SessionFault::BadExtent);
+    }
     let Ok(specs) = specs(alloc, config.slots) else {
         return Err(SessionFault::NoMemory);
     };
@@ -114,6 +117,7 @@ fn tell(config: &ToldConfig<'_>, why: SessionFault, slot: &mut usize, region: &m
     match why {
         SessionFault::BadOutlet => *slot = with_outlets(config.slots),
         SessionFault::BadDevice => *slot = with_devices(config.slots),
+        SessionFault::BadExtent => *slot = with_image_disks(config.slots),
         SessionFault::Board(fault) => tell_fault(fault, slot, region),
         _ => {}
     }

@@ -1,13 +1,14 @@
 //! A slot of a board, as C describes it.
 
 ghost use Rattle.std.specs.Prelude.{◌≡◌, ◌↔◌, ◌≤◌, false, All, IsTrue, IfOk};
+ghost use Rattle.session.specs.ImageDisks.{AreImageDisks, has_bad_image_disk};
 ghost use Rattle.session.specs.Refusing.{AreDevices, AreOutlets, has_bad_device};
-ghost use Rattle.board_ffi.specs.Judging.{first_of_bad_device, first_of_large_outlet, first_of_other_size, first_that_runs};
+ghost use Rattle.board_ffi.specs.Judging.{first_of_bad_device, first_of_bad_image_disk, first_of_large_outlet, first_of_other_size, first_that_runs};
 ghost use Rattle.board_ffi.specs.Config.{AreSized, StandStill, backing_of, guest_of, guests_of};
 
 use crate::device::all_described;
 use c_values::{SLOT_SIZE, Slot, depth, regions};
-use session::{Backing, Extent, GuestSpec, SlotSpec, has_bad_device};
+use session::{Backing, Extent, GuestSpec, SlotSpec, has_bad_device, has_bad_image_disk};
 use std::alloc::{AllocError, Global};
 
 /// How many bytes of a console's output may wait at most.
@@ -35,6 +36,7 @@ fn guest(slot: &Slot) -> GuestSpec
             start: slot.start,
             count: slot.count,
         },
+        spare: slot.spare,
         backing: backing(slot),
         read_only: slot.read_only,
         cols: slot.cols,
@@ -53,6 +55,13 @@ fn has_bad(slot: &Slot) -> bool
     ensures { result ≡ has_bad_device (guest_of slot.now) }
 {
     has_bad_device(&guest(slot))
+}
+
+// Whether a slot has a further disk over the image of sectors that it can't have.
+fn has_bad_disk(slot: &Slot) -> bool
+    ensures { result ≡ has_bad_image_disk (guest_of slot.now) }
+{
+    has_bad_image_disk(&guest(slot))
 }
 
 /// Whether each slot has the size of this version. Nothing behind the first that hasn't is read.
@@ -97,6 +106,20 @@ fn no_slot_has_bad_device(slots: &[Slot]) -> bool
     slots.iter().all(|slot| !has_bad(slot))
 }
 
+/// Whether each further disk over the image of each slot is of sectors that it can have.
+pub(crate) fn are_image_disks(slots: &[Slot]) -> bool
+    ensures { IsTrue result ↔ AreImageDisks (guests_of slots.now) }
+{
+    no_slot_has_bad_disk(slots)
+}
+
+// Whether no slot has one that isn't.
+fn no_slot_has_bad_disk(slots: &[Slot]) -> bool
+    ensures { IsTrue result ↔ All (λ slot. has_bad_image_disk (guest_of slot) ≡ false) slots.now }
+{
+    slots.iter().all(|slot| !has_bad_disk(slot))
+}
+
 /// How many slots stand before the first that says another size.
 pub(crate) fn sized(slots: &[Slot]) -> usize
     ensures { result ≡ first_of_other_size slots.now }
@@ -129,6 +152,13 @@ pub(crate) fn with_devices(slots: &[Slot]) -> usize
     ensures { result ≡ first_of_bad_device slots.now }
 {
     slots.iter().take_while(|slot| !has_bad(slot)).count()
+}
+
+/// How many slots stand before the first with a further disk over the image of sectors that it can't have.
+pub(crate) fn with_image_disks(slots: &[Slot]) -> usize
+    ensures { result ≡ first_of_bad_image_disk slots.now }
+{
+    slots.iter().take_while(|slot| !has_bad_disk(slot)).count()
 }
 
 /// The guests of these slots.

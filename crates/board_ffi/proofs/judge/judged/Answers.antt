@@ -20,6 +20,7 @@ returns-clause-fault c =
       whole = c.are_whole_sectors.ensures.0 c.if-not-are_whole_sectors.false;
       outlets = c.are_outlets.ensures.0 c.if-not-are_outlets.false;
       devices = c.are_devices.ensures.0 c.if-not-are_devices.false;
+      image_disks = c.are_image_disks.ensures.0 c.if-not-are_image_disks.false;
       lasts = lasts;
       refused = subst (λ (slots : List SlotSpec). Refuses sectors slots told.cache fault) specs
           (c.in-Err.ensures.fault told.cache);
