@@ -44,8 +44,8 @@ FIRST, _, EXTENDED = FIRST_LINES
 # The fields of those that have others in an extended trace.
 IN_EXTENDED = {"slot": ["regions", "disk", 64, 64, "mode", 16, 16]}
 
-# What stands behind the kind of a further device that is a disk.
-OF_DISK = [64, "mode", "identity", 8]
+# What stands behind the kind of a further device that is a disk, of the host or of the image.
+OF_DISK = {"disk": [64, "mode", "identity", 8], "image": [64, 64, "mode", "identity"]}
 
 # What stands behind them in all but version 1, and the words that an extended trace has alone.
 ADDED = {"slot": ["identity"]}
@@ -92,13 +92,13 @@ def fault_in(text, line, had_event, first):
 def kinds_of(word, fields, first):
     """The fields that the word has behind it in a trace with this first line, where these stand there."""
     kinds = IN_EXTENDED.get(word, LINES[word]) if first == EXTENDED else LINES[word]
-    added = OF_DISK if is_disk(word, fields) else ADDED.get(word, []) if first != FIRST else []
+    added = OF_DISK[fields[2]] if is_disk(word, fields) else ADDED.get(word, []) if first != FIRST else []
     return kinds + added
 
 
 def is_disk(word, fields):
     """Whether the line plugs in a disk."""
-    return word == "plug" and fields[2:3] == ["disk"]
+    return word == "plug" and "".join(fields[2:3]) in OF_DISK
 
 
 def fault_of_field(text, kind, width):
@@ -108,11 +108,13 @@ def fault_of_field(text, kind, width):
     if kind == "disk":
         who, mark, depth = text.partition(":")
         is_hosted = who + mark == "host:" and not fault_of_field(depth, 8, None)
-        return None if text == "image" or is_hosted else "Choice"
+        name, plus, spare = text.partition("+")
+        has_spare = name + plus == "image+" and spare != "0" and not fault_of_field(spare, 64, None)
+        return None if text == "image" or has_spare or is_hosted else "Choice"
     if kind == "kind":
         numbers = re.fullmatch("network:[0-9a-f]{12}:([^:]*)|console:([^:]*):([^:]*)", text)
         is_kind = numbers and not any(fault_of_field(number, 16, None) for number in numbers.groups() if number is not None)
-        return None if text in ("entropy", "disk") or is_kind else "Choice"
+        return None if text in ("entropy", "disk", "image") or is_kind else "Choice"
     if kind == "bytes":
         return None if text == "-" or re.fullmatch("([0-9a-f]{2})+", text) else "Bytes"
     if kind == "identity":

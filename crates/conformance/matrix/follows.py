@@ -45,7 +45,7 @@ class Life(Story):
         super().__init__(name, about, [dataclasses.replace(slot, disk="host:1") for slot in slots] if hosted else slots, **more)
         self.script, self.worked, self.records = script, worked, []
         self.extended = any(isinstance(slot, Wide) for slot in self.slots)
-        self.hosted = self.extended and any(slot.disk != "image" for slot in self.slots)
+        self.hosted = self.extended and any(model.has_host(slot.disk) for slot in self.slots)
         self.version = 3 if self.extended else self.version
 
     def head(self):

@@ -587,6 +587,9 @@ class Window:
 
 
 class Slot:
+    # How many spare sectors of the image it has behind its extent.
+    spare = 0
+
     # What is in flight, by its tag; whether no further chain is taken; and what a snapshot may say of that: over an image nothing
     # is ever in flight, and a slot never held.
     tags, held, may_be_held = (), False, (0,)
@@ -1137,6 +1140,35 @@ class Disk(HostedSlot, Further):
         return self.request(chain)
 
 
+class ImageDisk(Further):
+    """A further disk (5.2) over some of its slot's spare sectors, the first of them at this place among those."""
+
+    def __init__(self, slot, place, count, mode, identity):
+        if not 1 <= count <= slot.spare - place:
+            raise BadDevice
+        if any(place < other.place + other.count and other.place < place + count for other in image_disks_of(slot)):
+            raise BadDevice
+        self.read_only = mode != "rw"
+        super().__init__(slot, 2, 1, ["flush", "seg_max", "blk_size", "write_zeroes"] + ["ro"] * self.read_only)
+        self.cache, self.place = slot.cache, place
+        self.start = slot.start + slot.count + place
+        self.sectors = self.count = count
+        self.identity = identity
+
+    def configuration(self, window):
+        return Slot.configuration(self, "b")
+
+    def wants(self, index):
+        return True
+
+    def use(self, index, chain):
+        return super().request(chain)
+
+
+def image_disks_of(slot):
+    return [device for device in slot.devices if isinstance(device, ImageDisk)]
+
+
 class Console(Further):
     """A further console (5.3), and the output that waits for the host. Its window is also called as a slot's is."""
 
@@ -1211,6 +1243,16 @@ def depth_of(disk):
     return int(disk.partition(":")[2] or "1", 16)
 
 
+def spare_of(disk):
+    """How many spare sectors of the image a slot has behind its extent."""
+    return int(disk.partition("+")[2] or "0", 16)
+
+
+def has_host(disk):
+    """Whether the host serves a slot's disk."""
+    return disk.startswith("host:")
+
+
 def judge_disk(disk, count):
     """A disk that the host serves: it has 1 to 64 operations in flight, and fewer than 2^64 bytes."""
     if not 1 <= depth_of(disk) <= 64:
@@ -1224,8 +1266,9 @@ SLOTS = {"image": Slot, "host": HostedSlot}
 
 
 def slot_on(disk, fields, cache, lacks):
-    slot = SLOTS[disk.partition(":")[0]](fields, cache, lacks)
+    slot = SLOTS["host" if has_host(disk) else "image"](fields, cache, lacks)
     slot.tags = depth_of(disk) * [None]
+    slot.spare = spare_of(disk)
     return slot
 
 
@@ -1241,9 +1284,10 @@ def board_of(slots, capacity, image, lacks, most=64, largest=2**28):
         if base % 4096 or base + length > 2**64:
             raise BadBoard("BadBase")
         judge_others(base, length, rest[4:])
-        if disk != "image":
+        if has_host(disk):
             judge_disk(disk, count)
             continue
+        count += spare_of(disk)
         if start + count > len(image.bytes) // SECTOR:
             raise BadBoard("ExtentOutside")
         if count and any(start < end and first < start + count for first, end in taken):
@@ -1387,6 +1431,9 @@ def device_of(slot, number, kind=Further):
 def plugged(slot, number, kind, *disk):
     if int(number, 16) != len(slot.devices) or len(slot.devices) >= 6:
         raise BadDevice
+    if kind == "image":
+        slot.devices.append(image_disk_of(slot, *disk))
+        return "done"
     if disk:
         slot.devices.append(disk_of(slot, *disk))
         return "done"
@@ -1409,6 +1456,10 @@ KINDS = {"entropy": Entropy, "network": card_of, "console": console_of}
 
 def disk_of(slot, sectors, mode, identity, depth):
     return Disk(slot, int(sectors, 16), mode, bytes.fromhex(identity), int(depth, 16))
+
+
+def image_disk_of(slot, place, count, mode, identity):
+    return ImageDisk(slot, int(place, 16), int(count, 16), mode, bytes.fromhex(identity))
 
 
 def device_read(slot, number, offset, width):
@@ -1490,7 +1541,7 @@ def replay(text, content, fails=(), lacks=(), fault_of=None):
     lines = [line.split(" ") for line in text.decode("ascii").split("\n")[:-1]]
     first_line = " ".join(lines[0])
     slots = [slot_of(first_line, line) for line in lines if line[0] == "slot"]
-    is_hosted = any(disk != "image" for disk, *_ in slots)
+    is_hosted = any(has_host(disk) for disk, *_ in slots)
     most, largest = 16 if first_line == "vreplay 1" else 64, 2**32 if first_line == EXTENDED else 2**28
     try:
         board = board_of(slots, int(lines[1][1], 16), image, lacks, most, largest)

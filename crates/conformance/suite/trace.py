@@ -48,7 +48,7 @@ def bit_name(window, bit):
 EXTENDED = "kalyubos 1\n"
 
 # Every name that a scenario's features may have.
-BESIDE_BITS = {"guests", "extended", "hosted", "depth", "held", "devices", "disks", "consoles", "ro", "input", "resize", "size", "restore",
+BESIDE_BITS = {"guests", "extended", "hosted", "depth", "held", "devices", "disks", "consoles", "spare", "ro", "input", "resize", "size", "restore",
                "vendor", "offer", "fails", "calls"}
 NAMED = BESIDE_BITS | {feature for fields in FIELDS.values() for _, _, feature in fields} \
     | {bit_name(window, bit) for window in WINDOWS for bit in range(64)}
@@ -186,8 +186,8 @@ def events_of(text):
 
 
 def plugs_disk(fields):
-    """Whether a line's fields are those of a plug of a disk."""
-    return fields[0] == "plug" and fields[3:4] == ["disk"]
+    """Whether a line's fields are those of a plug of a disk, whoever serves it: there are as many."""
+    return fields[0] == "plug" and fields[3:4] in (["disk"], ["image"])
 
 
 def plugs_console(fields):
@@ -214,7 +214,7 @@ def features_of(text, replies):
     answers of DeviceFeatures), and those whose configuration fields are touched. Others are no bits: `offer`, all
     offered features are read; `vendor`, VendorID is; `resize`, `input` and `restore`, the host does that; `hosted`, it
     serves a disk; `depth`, several operations of one may be in flight; `held`, what is in flight is dropped, or a slot is held or released; `devices`,
-    a slot has further devices; `disks` and `consoles`, some of these are; `guests`, there are more than one; `ro`, a slot is read-only;
+    a slot has further devices; `disks` and `consoles`, some of these are; `spare`, a slot has spare sectors; `guests`, there are more than one; `ro`, a slot is read-only;
     `extended`, the trace is of no version that a plain one has.
     """
     found = {"extended"} if text.startswith(EXTENDED) else set()
@@ -226,6 +226,8 @@ def features_of(text, replies):
         found.add("hosted")
     if hosted - {"host:1"}:
         found.add("depth")
+    if any("".join(fields[1:2]).startswith("image+") for fields in slots):
+        found.add("spare")
     if any(fields[4:5] == ["ro"] for fields in slots):
         found.add("ro")
     windows = {}

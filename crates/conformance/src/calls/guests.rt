@@ -159,6 +159,7 @@ fn slot_of(alloc: Global, words: &mut Words<'_>) -> Result<SlotSpec, Stuck> {
     Ok(SlotSpec {
         regions,
         extent: Extent { start, count },
+        spare: 0,
         backing: Backing::Image,
         read_only: false,
         cols: 80,
