@@ -11,9 +11,9 @@ use Rattle.board.specs.declared.event.EventKind.{EventKind}
 use Rattle.board.specs.declared.event.EventKind.TheVariants.{Write}
 use Rattle.board.specs.declared.pause.Service.{Service}
 use Rattle.board.specs.declared.pause.Service.TheVariants as service
-use Rattle.board.specs.Backing.{HostDisk, sectors_by}
+use Rattle.board.specs.Backing.{HostDisk, device_extent, sectors_by}
 use Rattle.board.specs.Flights.{KeepsFlights}
-use Rattle.board.specs.Hosting.{block_beside, device_extent, is_block_task}
+use Rattle.board.specs.Hosting.{block_beside, is_block_task}
 use Rattle.board.specs.Machine.{with_write}
 use Rattle.board.specs.Slot.{KeepsPlace, BoardSlot, IsUnnoted, SlotState, state_of}
 use Rattle.board.proofs.Seats.{same_whole}

@@ -13,8 +13,7 @@ use Rattle.mmio_window.specs.Writing.{action_of}
 use Rattle.block_device.specs.declared.device.BlockDevice.{BlockDevice}
 use Rattle.block_device.specs.declared.operation.HostEvent.{HostEvent}
 use Rattle.block_device.specs.declared.operation.HostEvent.TheVariants.{Complete, Drop, Hold, Release}
-use Rattle.block_device.specs.Flights.{HostedQueue, InFlight, given_up}
-use Rattle.block_device.specs.Tags.{freed}
+use Rattle.block_device.specs.Flights.{HostedQueue, InFlight}
 use Rattle.hosted_disk.specs.Disk.{HostedDisk, LooksUnless, ServesDisk, queue_of}
 use Rattle.hosted_disk.specs.Told.{QueueTold, held_by}
 use Rattle.device_list.specs.Card.{Card, with_frame, with_link}
@@ -28,10 +27,10 @@ use Rattle.board.specs.declared.event.DeviceEvent.{DeviceEvent}
 use Rattle.board.specs.declared.event.DeviceEvent.TheVariants.{Plug, Read, Write, Supply, Receive, TakeSent, DropSent, SetLink, Resize, Host}
 use Rattle.board.specs.declared.event.EventKind.{EventKind}
 use Rattle.board.specs.declared.event.EventKind.TheVariants as event
-use Rattle.board.specs.Backing.{HostDisk, tags_in, with_tags}
+use Rattle.board.specs.Backing.{tags_in}
 use Rattle.board.specs.Devices.{DoesIf, DoesTo}
 use Rattle.board.specs.HostedDisks.{DiskUnit, Further, Own, SlotDisk, in_flight_of, on_hold_of, said_of, said_there, unit_of}
-use Rattle.board.specs.Hosting.{IsNoRestore, hosted_device, hosted_queue}
+use Rattle.board.specs.Hosting.{IsNoRestore, hosted_device, own_disk}
 use Rattle.board.specs.Image.{Health}
 use Rattle.board.specs.ImageDisks.{image_asked}
 use Rattle.board.proofs.AtDevice.{IsLeftBy, by_image, image_left, refused_by_image}
@@ -44,7 +43,7 @@ use Rattle.board.proofs.FurtherDevices.{of_device}
 use Rattle.board.proofs.HostedDisks.{behind_window, further_over}
 use Rattle.board.proofs.Identities.{IsBesideDevices, given_fixed, readied_fixed}
 use Rattle.board.proofs.Lists.{get_set, others_kept}
-use Rattle.board.proofs.Ways.{Drops, Holds, Lands, Looks, Passes, Releases, Rests, Waits, Way, by_disk}
+use Rattle.board.proofs.Ways.{Looks, Passes, Rests, Says, Waits, Way, by_disk}
 
 -- The disk stays; a snapshot says whether it is on hold; it isn't there yet; its queue is looked at; or it does as its host
 -- says.
@@ -74,10 +73,6 @@ own_passes _ old new host keeps = Stays (ap tags_in host) (keeps tt)
 own_stays : {A : Type 0} (what : EventKind A) (old new : SlotState) → new ≡ old → StepsTo Own what old new
 own_stays what old new is = Stays (ap (λ (s : SlotState). tags_in s.host) is) (ap (λ (s : SlotState). s.on_hold) is)
 
-freed_in : (host : Option HostDisk) → tags_in (with_tags (freed (tags_in host)) host) ≡ freed (tags_in host)
-freed_in None = refl
-freed_in (Some disk) = refl
-
 own_way : {A : Type 0} (what : EventKind A) (old : SlotState) (before : Health) (outcome : Outcome A)
     → Way (λ (o : Outcome A). MayGiveOverImage old what before before o) old what outcome
     → StepsTo Own what old outcome.state
@@ -88,34 +83,23 @@ own_way what old before outcome (Passes own free quiet h) =
     own_passes what old outcome.state kept.host kept.on_hold
 own_way what old before outcome (Looks rings looks h) =
     let ready = readied what old in
+    let new = outcome.state in
     let kept = readied_fixed what old rings in
-    IsLooked (hosted_device ready) (hosted_queue ready) (hosted_queue outcome.state)
-    (subst (λ (b : Bool). LooksUnless b (hosted_device ready) (hosted_queue ready) (hosted_queue outcome.state))
-    (kept.on_hold tt) looks.looks) (ap tags_in kept.host) refl
-    (ap (λ (s : SlotState). s.on_hold) looks.rest ∙ kept.on_hold tt)
+    let q = queue_of ready.memory ready.block (own_disk ready) in
+    let q' = queue_of new.memory new.block looks.disk in
+    IsLooked (hosted_device ready) q q'
+    (subst (λ (b : Bool). LooksUnless b (hosted_device ready) q q') (kept.on_hold tt) looks.does.looks)
+    (ap tags_in kept.host) (ap (λ (s : SlotState). tags_in s.host) looks.is)
+    (ap (λ (s : SlotState). s.on_hold) looks.is
+    ∙ ap (λ (disk : HostedDisk). disk.on_hold) looks.does.is ∙ kept.on_hold tt)
 own_way {A} what old before outcome (Rests said is h) =
     own_stays what old outcome.state (ap (λ (o : Outcome A). o.state) h)
-own_way what old before outcome (Lands tag verdict is completes h) =
-    let landed = completes.landed in
-    let on_hold : landed.on_hold ≡ old.on_hold = ap (λ (s : SlotState). s.on_hold) completes.lands.rest in
-    IsTold (Complete tag verdict) is (hosted_device landed) (hosted_queue old) (hosted_queue outcome.state)
-    (record {
-      landed = hosted_queue landed;
-      lands = completes.lands.lands;
-      looks = subst (λ (b : Bool).
-          LooksUnless b (hosted_device landed) (hosted_queue landed) (hosted_queue outcome.state)) on_hold
-          completes.looks.looks;
-    }) refl refl (ap (λ (s : SlotState). s.on_hold) completes.looks.rest ∙ on_hold)
-own_way {A} what old before outcome (Drops is h) =
-    IsTold Drop is (hosted_device old) (hosted_queue old) (given_up (hosted_queue old)) refl refl
-    (ap (λ (o : Outcome A). tags_in o.state.host) h ∙ freed_in old.host)
-    (ap (λ (o : Outcome A). o.state.on_hold) h)
-own_way {A} what old before outcome (Holds is h) =
-    IsTold Hold is (hosted_device old) (hosted_queue old) (hosted_queue old) refl refl
-    (ap (λ (o : Outcome A). tags_in o.state.host) h) (ap (λ (o : Outcome A). o.state.on_hold) h)
-own_way what old before outcome (Releases is looks h) =
-    IsTold Release is (hosted_device old) (hosted_queue old) (hosted_queue outcome.state) looks.looks refl refl
-    (ap (λ (s : SlotState). s.on_hold) looks.rest)
+own_way what old before outcome (Says said is says h) =
+    let new = outcome.state in
+    IsTold said is (hosted_device old) (queue_of old.memory old.block (own_disk old))
+    (queue_of new.memory new.block says.disk) says.does.queue refl
+    (ap (λ (s : SlotState). tags_in s.host) says.is)
+    (ap (λ (s : SlotState). s.on_hold) says.is ∙ ap (λ (disk : HostedDisk). disk.on_hold) says.does.is)
 
 own_steps : {A : Type 0} (what : EventKind A) (old : SlotState) (before after : Health) (outcome : Outcome A)
     → MayGive old what before after outcome → StepsTo Own what old outcome.state
@@ -578,13 +562,9 @@ way_devices {A} what old before outcome beside (Waits waits h) = ap (λ (o : Out
 way_devices what old before outcome beside (Passes own free quiet h) =
     (given_fixed old what before before outcome h).devices beside
 way_devices what old before outcome beside (Looks rings looks h) =
-    ap (λ (s : SlotState). s.devices) looks.rest ∙ (readied_fixed what old rings).devices tt
+    ap (λ (s : SlotState). s.devices) looks.is ∙ (readied_fixed what old rings).devices tt
 way_devices {A} what old before outcome beside (Rests said is h) = ap (λ (o : Outcome A). o.state.devices) h
-way_devices what old before outcome beside (Lands tag verdict is completes h) =
-    ap (λ (s : SlotState). s.devices) completes.looks.rest ∙ ap (λ (s : SlotState). s.devices) completes.lands.rest
-way_devices {A} what old before outcome beside (Drops is h) = ap (λ (o : Outcome A). o.state.devices) h
-way_devices {A} what old before outcome beside (Holds is h) = ap (λ (o : Outcome A). o.state.devices) h
-way_devices what old before outcome beside (Releases is looks h) = ap (λ (s : SlotState). s.devices) looks.rest
+way_devices what old before outcome beside (Says said is says h) = ap (λ (s : SlotState). s.devices) says.is
 
 beside_devices : {A : Type 0} (what : EventKind A) (old : SlotState) (before after : Health) (outcome : Outcome A)
     → IsBesideDevices what → MayGive old what before after outcome → outcome.state.devices ≡ old.devices
@@ -601,10 +581,7 @@ restore_way {A} n bytes old before outcome (Waits waits h) =
 restore_way n bytes old before outcome (Passes own free quiet h) = restore_over n bytes old before before outcome h
 restore_way n bytes old before outcome (Looks rings looks h) = absurd (cc rings)
 restore_way n bytes old before outcome (Rests said is h) = absurd (cc is)
-restore_way n bytes old before outcome (Lands tag verdict is completes h) = absurd (cc is)
-restore_way n bytes old before outcome (Drops is h) = absurd (cc is)
-restore_way n bytes old before outcome (Holds is h) = absurd (cc is)
-restore_way n bytes old before outcome (Releases is looks h) = absurd (cc is)
+restore_way n bytes old before outcome (Says said is says h) = absurd (cc is)
 
 further_steps : {A : Type 0} (n : ℕ) (what : EventKind A) (old : SlotState) (before after : Health)
     (outcome : Outcome A) → MayGive old what before after outcome → StepsTo (Further n) what old outcome.state

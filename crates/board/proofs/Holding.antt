@@ -2,14 +2,17 @@
 use Rattle.std.proofs.Common.{◌≡◌, ◌≢◌, ◌∙◌, inl, inr, ℕ, zero, suc, Bool, true, false, Option, Some, None, List, [], ◌∷◌, refl, sym, ap, subst}
 use Rattle.std.specs.Prelude.{IfSome, IsSome, ◌&&◌, ◌||◌, get_or}
 use Rattle.std.proofs.lemmas.Bool.{cases_eq}
+use Rattle.guest_memory.specs.Memory.{Memory}
+use Rattle.mmio_window.specs.Window.{WindowState}
 use Rattle.board.specs.declared.event.SlotWindow.TheVariants.{Block}
 use Rattle.block_device.specs.declared.device.BlockDevice.{BlockDevice}
 use Rattle.block_device.specs.declared.operation.HostEvent.{HostEvent}
 use Rattle.block_device.specs.declared.operation.Verdict.{Verdict}
-use Rattle.block_device.specs.Flights.{HostedQueue, InFlight, IsLanding}
+use Rattle.block_device.specs.Flights.{HostedQueue, InFlight, IsLanding, given_up}
 use Rattle.block_device.specs.Tags.{freed, is_any}
-use Rattle.hosted_disk.specs.Disk.{LooksUnless}
-use Rattle.hosted_disk.specs.Told.{QueueTold, held_by}
+use Rattle.hosted_disk.specs.Disk as looking
+use Rattle.hosted_disk.specs.Disk.{HostedDisk, LooksUnless, queue_of}
+use Rattle.hosted_disk.specs.Told.{DoesAsTold, QueueTold, held_by}
 use Rattle.block_device.proofs.Landing.{landed_free, landed_others}
 use Rattle.board.specs.declared.event.EventKind.{EventKind}
 use Rattle.board.specs.declared.event.EventKind.TheVariants.{Write, Host, Device}
@@ -19,12 +22,11 @@ use Rattle.board.specs.Waiting.{waits_beside}
 use Rattle.board.proofs.FurtherDevices.{dropped_disk, freed_none}
 use Rattle.block_device.specs.declared.operation.HostEvent.TheVariants.{Complete, Drop, Hold, Release}
 use Rattle.board.specs.declared.reply.Reply.TheVariants.{Busy}
-use Rattle.board.specs.Backing.{HostDisk, tags_in, with_tags}
+use Rattle.board.specs.Backing.{HostDisk, sectors_by, tags_in, with_tags}
 use Rattle.board.specs.HostedDisks.{SlotDisk, in_flight_of, on_hold_of, said_of}
-use Rattle.board.specs.Hosting.{DropGives, IsNoRestore, LooksAtQueue, dropped, held, must_wait, notifies_block, released, waits_now, with_queue}
-use Rattle.board.specs.Image.{Health}
+use Rattle.board.specs.Hosting.{DoesAsHostSays, DoesToOwn, IsNoRestore, LooksAtQueue, ToldGives, dropped, hosted_queue, must_wait, notifies_block, own_disk, waits_now, with_own, with_queue}
+use Rattle.board.specs.Image.{Health, sectors_of}
 use Rattle.board.specs.Machine.{GivesBy, IsNext, at_rest, readied}
-use Rattle.board.proofs.HostedWindows.{own_tags}
 use Rattle.board.specs.Outcome.{Outcome}
 use Rattle.board.specs.Slot.{SlotState}
 use Rattle.board.specs.World.{MayGive, MayGiveBy, MayGiveOverImage}
@@ -33,19 +35,16 @@ use Rattle.board.proofs.Hosts.{ringing_own}
 use Rattle.board.proofs.Identities.{given_fixed, readied_fixed}
 use Rattle.board.proofs.OneHosted.{look_once}
 use Rattle.board.proofs.Waiting.{waited}
-use Rattle.board.proofs.Ways.{Drops, Holds, Lands, Looks, Passes, Releases, Rests, Waits, Way, by_disk, must_by}
+use Rattle.board.proofs.Ways.{Looks, Passes, Rests, Says, Waits, Way, by_disk, must_by, told_says}
 
 -- ---- a drop
 
-pub dropped_tags : (host : Option HostDisk)
-    → is_any (tags_in (with_tags (freed (tags_in host)) host)) ≡ false
-dropped_tags None = refl
-dropped_tags (Some disk) = freed_none disk.tags
-
-gives_free : {A : Type 0} (any : Bool) (old : SlotState) (outcome : Outcome A) → is_any (tags_in old.host) ≡ any
-    → DropGives any old outcome → is_any (tags_in outcome.state.host) ≡ false
+gives_free : {A : Type 0} (effect : Bool) (old : SlotState) (outcome : Outcome A) → is_any (tags_in old.host) ≡ effect
+    → ToldGives effect Drop old outcome → is_any (tags_in outcome.state.host) ≡ false
 gives_free false old outcome is h = ap (λ o. is_any (tags_in o.state.host)) h ∙ is
-gives_free true old outcome is h = ap (λ o. is_any (tags_in o.state.host)) h ∙ dropped_tags old.host
+gives_free true old outcome is h =
+    ap (λ (s : SlotState). is_any (tags_in s.host)) h.0.is
+    ∙ (ap (λ (q : HostedQueue). is_any q.tags) h.0.does.queue ∙ freed_none (tags_in old.host))
 
 free_by : {A : Type 0} (host : Option HostDisk) (old : SlotState) (before after : Health) (outcome : Outcome A)
     → old.host ≡ host → MayGiveBy host old (Host Drop) before after outcome
@@ -73,13 +72,40 @@ dropped_passes old what before mid mid' after drop outcome h later busy =
     beside false must further free waits = waits
 
 -- what was in flight is given up
+put_back : (host : Option HostDisk) (disk : HostDisk) (n : ℕ) (tags : List (Option InFlight)) → host ≡ Some disk
+    → Some (record { sectors = sectors_by host n; tags = tags }) ≡ with_tags tags host
+put_back host disk n tags is = rw is refl
+
+-- the slot with its own disk so, of whose queue this is said
+abbrev own_put : SlotState → HostedQueue → SlotState
+own_put old q = with_own q.memory q.window (record (own_disk old) { tags = q.tags }) old
+
+queue_put : (old : SlotState) (disk : HostDisk) (q : HostedQueue) → old.host ≡ Some disk
+    → own_put old q ≡ with_queue q old
+queue_put old disk q is =
+    ap (λ (k : Option HostDisk). record old { memory = q.memory; block = q.window; host = k })
+    (put_back old.host disk (sectors_of old.extent) q.tags is)
+
+-- a disk that keeps its hold is put back with its queue
+put_so : (Does : HostedDisk → Memory → Memory → WindowState → WindowState → HostedDisk → Type 0) (old new : SlotState)
+    (h : DoesToOwn Does old new) → h.disk ≡ record (own_disk old) { tags = h.disk.tags }
+    → new ≡ own_put old (queue_of new.memory new.block h.disk)
+put_so Does old new h is = h.is ∙ ap (λ (d : HostedDisk). with_own new.memory new.block d old) is
+
+whole_by : (old new : SlotState) (disk : HostDisk) → old.host ≡ Some disk → DoesAsHostSays Drop old new
+    → new ≡ dropped old
+whole_by old new disk is h =
+    put_so (DoesAsTold Drop) old new h h.does.is
+    ∙ (ap (own_put old) h.does.queue ∙ queue_put old disk (given_up (hosted_queue old)) is)
+
 whole_at : {A : Type 0} (host : Option HostDisk) (old : SlotState) (before after : Health) (outcome : Outcome A)
     → old.host ≡ host → is_any (tags_in old.host) ≡ true → MayGiveBy host old (Host Drop) before after outcome
     → outcome.state ≡ dropped old
 whole_at None old before after outcome is any h =
     let none : is_any (tags_in old.host) ≡ false = ap (λ (k : Option HostDisk). is_any (tags_in k)) is in
     absurd (cc (any, none))
-whole_at (Some disk) old before after outcome is any h = ap (λ o. o.state) (rw any at h.gives)
+whole_at (Some disk) old before after outcome is any h =
+    whole_by old outcome.state disk is (told_says (is_any (tags_in old.host)) Drop old outcome any h.gives)
 
 pub dropped_whole : {A : Type 0} (old : SlotState) (before after : Health) (outcome : Outcome A)
     → is_any (tags_in old.host) ≡ true → MayGive old (Host Drop) before after outcome
@@ -102,10 +128,7 @@ further_by n old before outcome (Waits waits h) =
     let must = must_by (is_any (tags_in old.host)) false waits in absurd (cc must)
 further_by n old before outcome (Looks rings looks h) = absurd (cc rings)
 further_by n old before outcome (Rests said tells h) = absurd (cc tells)
-further_by n old before outcome (Lands tag verdict tells completes h) = absurd (cc tells)
-further_by n old before outcome (Drops tells h) = absurd (cc tells)
-further_by n old before outcome (Holds tells h) = absurd (cc tells)
-further_by n old before outcome (Releases tells looks h) = absurd (cc tells)
+further_by n old before outcome (Says said tells says h) = absurd (cc tells)
 
 pub dropped_further : {A : Type 0} (n : ℕ) (old : SlotState) (before after : Health) (outcome : Outcome A)
     → MayGive old (Device n (device.Host Drop)) before after outcome
@@ -206,11 +229,23 @@ looks_next (Some disk) old what before after outcome hosted rings free h =
     let own = ringing_own what old rings in
     (rw (own, free, rings) at h.gives).0
 
+-- the slot on hold, and off it
+abbrev held : SlotState → SlotState
+held state = record state { on_hold = true }
+
+abbrev released : SlotState → SlotState
+released state = record state { on_hold = false }
+
+looks_released : (old new : SlotState) → DoesAsHostSays Release old new → LooksAtQueue (released old) new
+looks_released old new h =
+    record { disk = h.disk; does = record { looks = h.does.queue; is = h.does.is }; is = h.is }
+
 release_next : {A : Type 0} (host : Option HostDisk) (old : SlotState) (before after : Health) (outcome : Outcome A)
     → IsSome host → old.on_hold ≡ true → GivesBy host old (Host Release) before after outcome
     → LooksAtQueue (released old) outcome.state
 release_next None old before after outcome hosted on_hold h = absurd (cc)
-release_next (Some disk) old before after outcome hosted on_hold h = (rw on_hold at h.gives).0
+release_next (Some disk) old before after outcome hosted on_hold h =
+    looks_released old outcome.state (told_says old.on_hold Release old outcome on_hold h.gives)
 
 -- whether a slot is on hold says nothing of what a write does to its registers
 rings_on : {A : Type 0} (b : Bool) (what : EventKind A) (old : SlotState)
@@ -224,11 +259,17 @@ readied_on (Write Block offset width value) old = refl
 readied_on _ old = refl
 
 -- and the slot
-unlooked_same : (old new : SlotState) → old.on_hold ≡ true → LooksAtQueue old new → new ≡ old
-unlooked_same old new on_hold h =
-    h.rest
-    ∙ (ap (λ (q : HostedQueue). with_queue q old) (rw on_hold at h.looks)
-    ∙ ap (λ (k : Option HostDisk). record old { host = k }) (sym (own_tags old.host)))
+own_back : (host : Option HostDisk) (n : ℕ) → IsSome host
+    → Some (record { sectors = sectors_by host n; tags = tags_in host }) ≡ host
+own_back None n some = absurd (cc some)
+own_back (Some disk) n some = refl
+
+unlooked_same : (old new : SlotState) → old.on_hold ≡ true → IsSome old.host → LooksAtQueue old new → new ≡ old
+unlooked_same old new on_hold hosted h =
+    let same : queue_of new.memory new.block h.disk ≡ hosted_queue old = rw on_hold at h.does.looks in
+    put_so looking.LooksAtQueue old new h h.does.is
+    ∙ (ap (own_put old) same
+    ∙ ap (λ (k : Option HostDisk). record old { host = k }) (own_back old.host (sectors_of old.extent) hosted))
 
 pub makes_up : {A : Type 0} (old : SlotState) (what : EventKind A) (wait late prompt : Outcome A) → IsSome old.host
     → notifies_block what old ≡ true → waits_now what old.host ≡ false → IsNext (held old) what wait
@@ -238,6 +279,7 @@ makes_up {A} old what wait late prompt hosted rings free w l p =
     let ringing : notifies_block what (held old) ≡ true = rings_on true what old ∙ rings in
     let stands : wait.state ≡ ready =
     unlooked_same ready wait.state ((readied_fixed what (held old) ringing).on_hold tt)
+    (subst (λ (k : Option HostDisk). IsSome k) (sym (readied_fixed what (held old) ringing).host) hosted)
     (looks_next old.host (held old) what at_rest w.after wait hosted ringing free w.gives) in
     let host : wait.state.host ≡ old.host =
     ap (λ (s : SlotState). s.host) stands ∙ (readied_fixed what (held old) ringing).host in

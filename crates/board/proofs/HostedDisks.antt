@@ -1,18 +1,15 @@
 -- What becomes of a disk that the host serves in an event of its slot, whether it is the slot's own or a further one.
 use Rattle.std.proofs.Common.{◌≡◌, inl, inr, ℕ, Bool, true, false, Option, Some, None, List, [], get_or, refl, sym, ◌∙◌, ap, subst}
-use Rattle.std.specs.Prelude.{if◌then◌else◌, is_some, not, slice_set, unwrap_or}
+use Rattle.std.specs.Prelude.{if◌then◌else◌, slice_set, unwrap_or}
 use Rattle.std.specs.List.{slice_get}
 use Rattle.std.specs.Option.{option_and_then, option_map, option_map_or}
 use Rattle.std.proofs.lemmas.Bool.Decides.{eqb_tells}
 use Rattle.std.proofs.lemmas.Option.{same_Some}
 use Rattle.mmio_window.specs.Window.{WindowState}
-use Rattle.block_device.specs.declared.device.BlockDevice.{BlockDevice}
 use Rattle.block_device.specs.declared.operation.HostEvent.{HostEvent}
-use Rattle.block_device.specs.declared.operation.HostEvent.TheVariants.{Complete, Drop, Hold, Release}
-use Rattle.block_device.specs.declared.operation.Verdict.{Verdict}
-use Rattle.block_device.specs.Flights.{InFlight, given_up}
-use Rattle.block_device.specs.Tags.{freed, is_any}
-use Rattle.hosted_disk.specs.Disk.{HostedDisk, LooksUnless}
+use Rattle.block_device.specs.Flights.{InFlight}
+use Rattle.block_device.specs.Tags.{is_any}
+use Rattle.hosted_disk.specs.Disk.{HostedDisk}
 use Rattle.hosted_disk.specs.Told.{has_effect}
 use Rattle.device_list.specs.Device.{DeviceState, Told}
 use Rattle.device_list.specs.List.{At}
@@ -22,16 +19,15 @@ use Rattle.board.specs.declared.event.DeviceEvent.TheVariants as device
 use Rattle.board.specs.declared.event.EventKind.{EventKind}
 use Rattle.board.specs.declared.event.EventKind.TheVariants.{Device}
 use Rattle.board.specs.declared.reply.Reply.{Reply}
-use Rattle.board.specs.Backing.{HostDisk, sectors_by, tags_in, with_tags}
+use Rattle.board.specs.Backing.{HostDisk, tags_in}
 use Rattle.board.specs.Devices.{DoesIf, GivesByDevice, GivesDevice, IsDeviceStep, has_effect_at, told_reply}
 use Rattle.board.specs.HostedDisks.{DiskUnit, DoesAsSaid, Further, Own, SlotDisk, in_flight_of, own_unit, said_of, said_there, unit_at, unit_of}
-use Rattle.board.specs.Hosting.{CompletesTag, CompletionGives, DropGives, HoldGives, HostGives, HostOrGives, LooksAtQueue, ReleaseGives, device_with, dropped, held, hosted_device, hosted_queue, released, told_in, with_queue_of}
-use Rattle.board.specs.Image.{Health, sectors_of}
+use Rattle.board.specs.Hosting.{DoesAsHostSays, HostOrGives, own_disk, told_in}
+use Rattle.board.specs.Image.{Health}
 use Rattle.board.specs.Outcome.{Outcome, replies}
 use Rattle.board.specs.Slot.{SlotState}
 use Rattle.board.specs.World.{MayGive, MayGiveBy, MayGiveOverImage}
-use Rattle.board.proofs.HostedWindows.{own_tags}
-use Rattle.board.proofs.Ways.{Drops, Holds, Lands, Looks, Passes, Releases, Rests, Waits, Way, by_disk, must_by}
+use Rattle.board.proofs.Ways.{Looks, Passes, Rests, Says, Waits, Way, by_disk, must_by, told_says}
 
 -- ---- what is in flight of a disk is what its unit has
 
@@ -77,126 +73,15 @@ found (Further n) state tag here taken = further_found n (unit_at (Further n) st
 
 -- ---- the slot's own does as its host says
 
-twice_with : (one other : List (Option InFlight)) (host : Option HostDisk)
-    → with_tags one (with_tags other host) ≡ with_tags one host
-twice_with one other None = refl
-twice_with one other (Some disk) = refl
-
-sectors_with : (tags : List (Option InFlight)) (host : Option HostDisk) (n : ℕ) → is_some host ≡ true
-    → sectors_by (with_tags tags host) n ≡ sectors_by host n
-sectors_with tags None n hosted = absurd (cc hosted)
-sectors_with tags (Some disk) n hosted = refl
-
--- a look or a landing leaves what its device is
-device_behind : (new old : SlotState) → is_some old.host ≡ true → hosted_device (with_queue_of new old) ≡ hosted_device old
-device_behind new old hosted =
-    ap (λ (n : ℕ). device_with n old) (sectors_with (tags_in new.host) old.host (sectors_of old.extent) hosted)
-
-own_completes : (tag : ℕ) (verdict : Verdict) (old new : SlotState) → is_some old.host ≡ true
-    → unit_at Own old ≡ Some (own_unit old) → CompletesTag tag verdict old new
-    → DoesAsSaid Own (Complete tag verdict) old new
-own_completes tag verdict old new hosted there h =
-    let landed = h.landed in
-    let rest = h.lands.rest in
-    let on_hold : landed.on_hold ≡ old.on_hold = ap (λ (s : SlotState). s.on_hold) rest in
-    let same : hosted_device landed ≡ hosted_device old =
-    ap hosted_device rest ∙ device_behind landed old hosted in
-    let looks : LooksUnless old.on_hold (hosted_device landed) (hosted_queue landed) (hosted_queue new) =
-    subst (λ (b : Bool). LooksUnless b (hosted_device landed) (hosted_queue landed) (hosted_queue new)) on_hold
-    h.looks.looks in
-    record {
-      before = own_unit old;
-      after = record {
-        window = new.block;
-        disk = record { device = hosted_device old; tags = tags_in new.host; on_hold = old.on_hold };
-      };
-      there = there;
-      does = record {
-        queue = record {
-          landed = hosted_queue landed;
-          lands = h.lands.lands;
-          looks =
-              subst (λ (d : BlockDevice). LooksUnless old.on_hold d (hosted_queue landed) (hosted_queue new)) same
-              looks;
-        };
-        is = refl;
-      };
-      is = h.looks.rest
-          ∙ (ap (with_queue_of new) rest
-          ∙ ap (λ (host : Option HostDisk). record old { memory = new.memory; block = new.block; host = host })
-          (twice_with (tags_in new.host) (tags_in landed.host) old.host));
-    }
-
-own_drops : (old : SlotState) → unit_at Own old ≡ Some (own_unit old) → DoesAsSaid Own Drop old (dropped old)
-own_drops old there = record {
+own_does : (said : HostEvent) (old new : SlotState) → unit_at Own old ≡ Some (own_unit old)
+    → DoesAsHostSays said old new → DoesAsSaid Own said old new
+own_does said old new there h = record {
   before = own_unit old;
-  after = record {
-    window = (given_up (hosted_queue old)).window;
-    disk = record { device = hosted_device old; tags = freed (tags_in old.host); on_hold = old.on_hold };
-  };
+  after = record { window = new.block; disk = h.disk };
   there = there;
-  does = record { queue = refl; is = refl };
-  is = refl;
+  does = h.does;
+  is = h.is;
 }
-
-own_holds : (old : SlotState) → unit_at Own old ≡ Some (own_unit old) → DoesAsSaid Own Hold old (held old)
-own_holds old there = record {
-  before = own_unit old;
-  after = record {
-    window = old.block;
-    disk = record { device = hosted_device old; tags = tags_in old.host; on_hold = true };
-  };
-  there = there;
-  does = record { queue = refl; is = refl };
-  is = ap (λ (host : Option HostDisk). record old { host = host; on_hold = true }) (own_tags old.host);
-}
-
-own_releases : (old new : SlotState) → unit_at Own old ≡ Some (own_unit old) → LooksAtQueue (released old) new
-    → DoesAsSaid Own Release old new
-own_releases old new there h = record {
-  before = own_unit old;
-  after = record {
-    window = new.block;
-    disk = record { device = hosted_device old; tags = tags_in new.host; on_hold = false };
-  };
-  there = there;
-  does = record { queue = h.looks; is = refl };
-  is = h.rest;
-}
-
-completion_does : {A : Type 0} (here : Option InFlight) (tag : ℕ) (verdict : Verdict) (old : SlotState)
-    (outcome : Outcome A) → is_some here ≡ true → is_some old.host ≡ true → unit_at Own old ≡ Some (own_unit old)
-    → CompletionGives here tag verdict old outcome → DoesAsSaid Own (Complete tag verdict) old outcome.state
-completion_does None tag verdict old outcome some hosted there h = absurd (cc some)
-completion_does (Some here) tag verdict old outcome some hosted there h =
-    own_completes tag verdict old outcome.state hosted there h.0
-
-drop_does : {A : Type 0} (any : Bool) (old : SlotState) (outcome : Outcome A) → any ≡ true
-    → unit_at Own old ≡ Some (own_unit old) → DropGives any old outcome → DoesAsSaid Own Drop old outcome.state
-drop_does false old outcome some there h = absurd (cc some)
-drop_does {A} true old outcome some there h =
-    subst (DoesAsSaid Own Drop old) (sym (ap (λ (o : Outcome A). o.state) h)) (own_drops old there)
-
-hold_does : {A : Type 0} (on_hold : Bool) (old : SlotState) (outcome : Outcome A) → not on_hold ≡ true
-    → unit_at Own old ≡ Some (own_unit old) → HoldGives on_hold old outcome → DoesAsSaid Own Hold old outcome.state
-hold_does true old outcome free there h = absurd (cc free)
-hold_does {A} false old outcome free there h =
-    subst (DoesAsSaid Own Hold old) (sym (ap (λ (o : Outcome A). o.state) h)) (own_holds old there)
-
-release_does : {A : Type 0} (on_hold : Bool) (old : SlotState) (outcome : Outcome A) → on_hold ≡ true
-    → unit_at Own old ≡ Some (own_unit old) → ReleaseGives on_hold old outcome
-    → DoesAsSaid Own Release old outcome.state
-release_does false old outcome on_hold there h = absurd (cc on_hold)
-release_does true old outcome on_hold there h = own_releases old outcome.state there h.0
-
-own_word : {A : Type 0} (said : HostEvent) (old : SlotState) (outcome : Outcome A) → is_some old.host ≡ true
-    → unit_at Own old ≡ Some (own_unit old) → has_effect said (own_unit old).disk ≡ true → HostGives said old outcome
-    → DoesAsSaid Own said old outcome.state
-own_word (Complete tag verdict) old outcome hosted there effect h =
-    completion_does (get_or (tags_in old.host) tag None) tag verdict old outcome effect hosted there h
-own_word Drop old outcome hosted there effect h = drop_does (is_any (tags_in old.host)) old outcome effect there h
-own_word Hold old outcome hosted there effect h = hold_does old.on_hold old outcome effect there h
-own_word Release old outcome hosted there effect h = release_does old.on_hold old outcome effect there h
 
 own_says : {A : Type 0} (host : Option HostDisk) (old : SlotState) (unit : DiskUnit) (said : HostEvent)
     (what : EventKind A) (before after : Health) (outcome : Outcome A) → old.host ≡ host
@@ -209,9 +94,10 @@ own_says None old unit said what before after outcome is there effect told h =
 own_says {A} (Some disk) old unit said what before after outcome is there effect told h =
     let Beside : Outcome A → Type 0 = λ (o : Outcome A). MayGiveOverImage old what before before o in
     let same : unit ≡ own_unit old = own_tags_by old.host old unit there in
-    own_word said old outcome (ap is_some is) (there ∙ ap Some same)
+    own_does said old outcome.state (there ∙ ap Some same)
+    (told_says (has_effect said (own_disk old)) said old outcome
     (ap (λ (u : DiskUnit). has_effect said u.disk) (sym same) ∙ effect)
-    (subst (λ (f : Option HostEvent). HostOrGives Beside f old what outcome) told h.gives)
+    (subst (λ (f : Option HostEvent). HostOrGives Beside f old what outcome) told h.gives))
 
 -- ---- and so does a further one
 
@@ -230,10 +116,7 @@ further_over {A} {P} n what old before after outcome over h =
     by_way (Waits waits h) = let must = must_by (is_any (tags_in old.host)) false waits in absurd (cc must)
     by_way (Looks rings looks h) = absurd (cc rings)
     by_way (Rests said tells h) = absurd (cc tells)
-    by_way (Lands tag verdict tells completes h) = absurd (cc tells)
-    by_way (Drops tells h) = absurd (cc tells)
-    by_way (Holds tells h) = absurd (cc tells)
-    by_way (Releases tells looks h) = absurd (cc tells)
+    by_way (Says said tells does h) = absurd (cc tells)
 
 -- a disk behind this window
 abbrev pub behind_window : WindowState → HostedDisk → DiskUnit

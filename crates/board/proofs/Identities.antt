@@ -31,7 +31,7 @@ use Rattle.board.proofs.Refusals.{Failed, FailedImage, Unput, Unread, Unsent, wa
 use Rattle.board.specs.Machine.{GivesOverImage, readied}
 use Rattle.board.specs.World.{MayGiveOverImage}
 use Rattle.board.proofs.Seats.{by_slot}
-use Rattle.board.proofs.Ways.{Drops, Holds, Lands, Looks, Passes, Releases, Rests, Waits, Way, by_disk}
+use Rattle.board.proofs.Ways.{Looks, Passes, Rests, Says, Waits, Way, by_disk}
 
 -- an event that does nothing to a further device
 abbrev pub IsBesideDevices : {A : Type 0} → EventKind A → Type 0
@@ -157,14 +157,9 @@ on_host_named state what old outcome (Waits waits h) = ap (λ o. o.state.identit
 on_host_named state what old outcome (Passes own free quiet h) =
     (given_fixed state what old old outcome h).identity
 on_host_named state what old outcome (Looks rings looks h) =
-    ap (λ (s : SlotState). s.identity) looks.rest ∙ (readied_fixed what state rings).identity
+    ap (λ (s : SlotState). s.identity) looks.is ∙ (readied_fixed what state rings).identity
 on_host_named state what old outcome (Rests said is h) = ap (λ o. o.state.identity) h
-on_host_named state what old outcome (Lands tag verdict is completes h) =
-    ap (λ (s : SlotState). s.identity) completes.looks.rest
-    ∙ ap (λ (s : SlotState). s.identity) completes.lands.rest
-on_host_named state what old outcome (Drops is h) = ap (λ o. o.state.identity) h
-on_host_named state what old outcome (Holds is h) = ap (λ o. o.state.identity) h
-on_host_named state what old outcome (Releases is looks h) = ap (λ (s : SlotState). s.identity) looks.rest
+on_host_named state what old outcome (Says said is says h) = ap (λ (s : SlotState). s.identity) says.is
 
 given_named : {A : Type 0} (state : SlotState) (what : EventKind A) (old new : Health) (outcome : Outcome A)
     → MayGive state what old new outcome → outcome.state.identity ≡ state.identity

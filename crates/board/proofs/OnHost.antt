@@ -15,7 +15,7 @@ use Rattle.board.specs.Outcome.{Outcome}
 use Rattle.board.specs.Pausing.{TurnsTo}
 use Rattle.board.specs.Slot.{SlotState}
 use Rattle.board.specs.World.{MayGive, MayGiveBy, MayGiveOverImage}
-use Rattle.board.proofs.Ways.{Drops, Holds, Lands, Looks, Passes, Releases, Rests, Waits, Way, by_disk}
+use Rattle.board.proofs.Ways.{Looks, Passes, Rests, Says, Waits, Way, by_disk}
 
 -- ---- an event in which the host has no part
 
@@ -91,13 +91,7 @@ lacking_way state what before outcome lacks (Looks rings looks h) =
     let done = ap (λ o. o.reply) h in absurd (cc)
 lacking_way state what before outcome lacks (Rests said is h) =
     let idle = ap (λ o. o.reply) h in absurd (cc)
-lacking_way state what before outcome lacks (Lands tag verdict is lands h) =
-    let done = ap (λ o. o.reply) h in absurd (cc)
-lacking_way state what before outcome lacks (Drops is h) =
-    let done = ap (λ o. o.reply) h in absurd (cc)
-lacking_way state what before outcome lacks (Holds is h) =
-    let done = ap (λ o. o.reply) h in absurd (cc)
-lacking_way state what before outcome lacks (Releases is looks h) =
+lacking_way state what before outcome lacks (Says said is says h) =
     let done = ap (λ o. o.reply) h in absurd (cc)
 
 pub lacking_over_image : {A : Type 0} (state : SlotState) (what : EventKind A) (before after : Health)

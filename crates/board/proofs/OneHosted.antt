@@ -1,44 +1,48 @@
 -- An event of a guest whose disk the host serves has one outcome, where those beside the disk have.
-use Rattle.std.proofs.Common.{◌≡◌, Bool, true, false, ℕ, Option, Some, None, get_or, sym, ap, subst, ◌∙◌}
-use Rattle.block_device.specs.declared.operation.Verdict.{Verdict}
-use Rattle.block_device.specs.Flights.{HostedQueue, InFlight}
-use Rattle.block_device.specs.Tags.{is_any}
-use Rattle.hosted_disk.proofs.One.{land_queue, unless_queue}
-use Rattle.board.specs.declared.event.EventKind.{EventKind}
+use Rattle.std.proofs.Common.{◌≡◌, Bool, true, false, Option, Some, None, refl, sym, ap, ◌∙◌}
+use Rattle.guest_memory.specs.Memory.{Memory}
+use Rattle.mmio_window.specs.Window.{WindowState}
+use Rattle.mmio_window.proofs.OneEnd.{SameEnd}
 use Rattle.block_device.specs.declared.operation.HostEvent.{HostEvent}
-use Rattle.block_device.specs.declared.operation.HostEvent.TheVariants.{Complete, Drop, Hold, Release}
+use Rattle.hosted_disk.specs.Disk as hosted
+use Rattle.hosted_disk.specs.Disk.{HostedDisk}
+use Rattle.hosted_disk.specs.Told.{DoesAsTold, has_effect}
+use Rattle.hosted_disk.proofs.One.{serve_disk, tell_disk}
+use Rattle.board.specs.declared.event.EventKind.{EventKind}
 use Rattle.board.specs.declared.reply.Reply.{Reply}
 use Rattle.board.specs.declared.reply.Reply.TheVariants.{Done}
-use Rattle.board.specs.Backing.{tags_in}
-use Rattle.board.specs.Hosting.{CompletesTag, CompletionGives, DropGives, HoldGives, HostGives, HostOrGives, LandsTag, LooksAtQueue, LooksOrGives, OwnGives, ReleaseGives, hosted_device, hosted_queue, notifies_block, released, told_in, waits_now, with_queue, with_queue_of}
+use Rattle.board.specs.Hosting.{DoesAsHostSays, DoesToOwn, HostOrGives, LooksAtQueue, LooksOrGives, OwnGives, ToldGives, notifies_block, own_disk, told_in, waits_now, with_own}
 use Rattle.board.specs.Machine.{readied}
 use Rattle.board.specs.Outcome.{Outcome, replies}
 use Rattle.board.specs.Slot.{SlotState}
 
--- ---- a look, and a completion
+-- ---- what the disk does
 
--- and so the slot is the same
-after_queue : (old one other : SlotState) → hosted_queue one ≡ hosted_queue other
-    → with_queue_of one old ≡ with_queue_of other old
-after_queue old one other same = ap (λ (q : HostedQueue). with_queue q old) same
+own_same : (old : SlotState) (m n : Memory) (v w : WindowState) (disk other : HostedDisk) → m ≡ n → v ≡ w
+    → disk ≡ other → with_own m v disk old ≡ with_own n w other old
+own_same old m n v w disk other p q r = rw (p, q, r) refl
+
+-- where its queue, its window and itself have one end, the slot has
+own_once : (Does : HostedDisk → Memory → Memory → WindowState → WindowState → HostedDisk → Type 0)
+    (old one other : SlotState) (x : DoesToOwn Does old one) (y : DoesToOwn Does old other)
+    → SameEnd one.memory other.memory one.block other.block x.disk y.disk → one ≡ other
+own_once Does old one other x y same =
+    x.is
+    ∙ own_same old one.memory other.memory one.block other.block x.disk y.disk same.memory same.window same.state
+    ∙ sym y.is
 
 pub look_once : (old one other : SlotState) → LooksAtQueue old one → LooksAtQueue old other → one ≡ other
 look_once old one other x y =
-    let same = unless_queue old.on_hold (hosted_device old) (hosted_queue old) (hosted_queue one)
-    (hosted_queue other) x.looks y.looks in
-    x.rest ∙ after_queue old one other same ∙ sym y.rest
+    own_once hosted.LooksAtQueue old one other x y
+    (serve_disk (own_disk old) x.disk y.disk 0 old.memory one.memory other.memory old.block one.block other.block
+    x.does y.does)
 
-land_once : (tag : ℕ) (verdict : Verdict) (old one other : SlotState) → LandsTag tag verdict old one
-    → LandsTag tag verdict old other → one ≡ other
-land_once tag verdict old one other x y =
-    let same = land_queue tag verdict (hosted_queue old) (hosted_queue one) (hosted_queue other) x.lands y.lands in
-    x.rest ∙ after_queue old one other same ∙ sym y.rest
-
-complete_once : (tag : ℕ) (verdict : Verdict) (old one other : SlotState) → CompletesTag tag verdict old one
-    → CompletesTag tag verdict old other → one ≡ other
-complete_once tag verdict old one other x y =
-    let landed : y.landed ≡ x.landed = land_once tag verdict old y.landed x.landed y.lands x.lands in
-    look_once x.landed one other x.looks (subst (λ (s : SlotState). LooksAtQueue s other) landed y.looks)
+says_once : (said : HostEvent) (old one other : SlotState) → DoesAsHostSays said old one
+    → DoesAsHostSays said old other → one ≡ other
+says_once said old one other x y =
+    own_once (DoesAsTold said) old one other x y
+    (tell_disk said (own_disk old) x.disk y.disk old.memory one.memory other.memory old.block one.block other.block
+    x.does y.does)
 
 -- ---- an event
 
@@ -54,40 +58,20 @@ module _ {A : Type 0} (Beside : Outcome A → Type 0) (old : SlotState) (what : 
       answered one other Done (look_once (readied what old) one.state other.state x.0 y.0) x.1 y.1
   looking_once false x y = beside x y
 
-  own_once : (waits : Bool) → OwnGives Beside waits old what one → OwnGives Beside waits old what other
+  waiting_once : (waits : Bool) → OwnGives Beside waits old what one → OwnGives Beside waits old what other
       → one ≡ other
-  own_once true x y = x ∙ sym y
-  own_once false x y = looking_once (notifies_block what old) x y
+  waiting_once true x y = x ∙ sym y
+  waiting_once false x y = looking_once (notifies_block what old) x y
 
-  completion_once : (found : Option InFlight) (tag : ℕ) (verdict : Verdict)
-      → CompletionGives found tag verdict old one → CompletionGives found tag verdict old other → one ≡ other
-  completion_once None tag verdict x y = x ∙ sym y
-  completion_once (Some here) tag verdict x y =
-      answered one other Done (complete_once tag verdict old one.state other.state x.0 y.0) x.1 y.1
-
-  drop_once : (any : Bool) → DropGives any old one → DropGives any old other → one ≡ other
-  drop_once false x y = x ∙ sym y
-  drop_once true x y = x ∙ sym y
-
-  hold_once : (on_hold : Bool) → HoldGives on_hold old one → HoldGives on_hold old other → one ≡ other
-  hold_once true x y = x ∙ sym y
-  hold_once false x y = x ∙ sym y
-
-  release_once : (on_hold : Bool) → ReleaseGives on_hold old one → ReleaseGives on_hold old other → one ≡ other
-  release_once false x y = x ∙ sym y
-  release_once true x y =
-      answered one other Done (look_once (released old) one.state other.state x.0 y.0) x.1 y.1
-
-  host_once : (said : HostEvent) → HostGives said old one → HostGives said old other → one ≡ other
-  host_once (Complete tag verdict) x y = completion_once (get_or (tags_in old.host) tag None) tag verdict x y
-  host_once Drop x y = drop_once (is_any (tags_in old.host)) x y
-  host_once Hold x y = hold_once old.on_hold x y
-  host_once Release x y = release_once old.on_hold x y
+  told_once : (effect : Bool) (said : HostEvent) → ToldGives effect said old one → ToldGives effect said old other
+      → one ≡ other
+  told_once false said x y = x ∙ sym y
+  told_once true said x y = answered one other Done (says_once said old one.state other.state x.0 y.0) x.1 y.1
 
   once_by : (found : Option HostEvent) → HostOrGives Beside found old what one
       → HostOrGives Beside found old what other → one ≡ other
-  once_by None x y = own_once (waits_now what old.host) x y
-  once_by (Some said) x y = host_once said x y
+  once_by None x y = waiting_once (waits_now what old.host) x y
+  once_by (Some said) x y = told_once (has_effect said (own_disk old)) said x y
 
 pub hosted_once : {A : Type 0} (Beside : Outcome A → Type 0) (old : SlotState) (what : EventKind A)
     (one other : Outcome A) → (Beside one → Beside other → one ≡ other)

@@ -31,7 +31,7 @@ use Rattle.board.proofs.AtDevice.{IsWrite, asked_write, by_image, refused_by_ima
 use Rattle.board.proofs.FurtherDevices.{device_busy, device_idle, device_image, device_replies, unmet_replies}
 use Rattle.board.specs.Waiting.{waits_beside}
 use Rattle.board.proofs.Refusals.{Failed, FailedImage, Unput, Unread, Unsent, WasRefused, was_refused}
-use Rattle.board.proofs.Ways.{Drops, Holds, Lands, Looks, Passes, Releases, Rests, Waits, Way, by_disk, must_by}
+use Rattle.board.proofs.Ways.{Looks, Passes, Rests, Says, Waits, Way, by_disk, must_by}
 
 -- a task that is finished is done
 finished_done : {A : Type 0} (task : Task) (state : SlotState) (before after : Health)
@@ -228,12 +228,7 @@ on_host_replies state what old outcome (Passes own free quiet h) =
 on_host_replies state what old outcome (Looks rings looks h) =
     as_told what outcome _ h (ringing_reply what state rings)
 on_host_replies state what old outcome (Rests said is h) = as_told what outcome _ h (told_reply what said is).1
-on_host_replies state what old outcome (Lands tag verdict is lands h) =
-    as_told what outcome _ h (told_reply what (Complete tag verdict) is).0
-on_host_replies state what old outcome (Drops is h) = as_told what outcome _ h (told_reply what Drop is).0
-on_host_replies state what old outcome (Holds is h) = as_told what outcome _ h (told_reply what Hold is).0
-on_host_replies state what old outcome (Releases is looks h) =
-    as_told what outcome _ h (told_reply what Release is).0
+on_host_replies state what old outcome (Says said is says h) = as_told what outcome _ h (told_reply what said is).0
 
 pub given_replies : {A : Type 0} (state : SlotState) (what : EventKind A) (old new : Health)
     (outcome : Outcome A) → MayGive state what old new outcome → MayReply what outcome.reply

@@ -12,13 +12,15 @@ use Rattle.board.specs.declared.event.EventKind.TheVariants.{Read, Write, MemRea
 use Rattle.block_device.specs.declared.operation.HostEvent.{HostEvent}
 use Rattle.block_device.specs.declared.operation.HostEvent.TheVariants.{Complete, Drop, Hold, Release}
 use Rattle.block_device.specs.declared.operation.Verdict.{Verdict}
-use Rattle.block_device.specs.Tags.{is_any}
+use Rattle.block_device.specs.Flights.{HostedQueue}
+use Rattle.hosted_disk.specs.Disk.{queue_of}
+use Rattle.hosted_disk.specs.Told.{QueueTold, has_effect}
 use Rattle.board.specs.declared.reply.Reply.{Reply}
 use Rattle.board.specs.declared.reply.Reply.TheVariants.{Value, NoMemory, Idle}
 use Rattle.board.specs.declared.saved.RestoreFault.{RestoreFault}
 use Rattle.board.specs.declared.saved.RestoreFault.TheVariants.{Snapshot, OtherSlot, BadDevice, BadBlock, BadConsole, BadDeviceWindow}
-use Rattle.board.specs.Backing.{HostDisk, tags_in}
-use Rattle.board.specs.Hosting.{DropGives, GivesOnHost, HoldGives, HostOrGives, OwnGives, dropped, held, is_block_task, notifies_block, told_in, waits_now}
+use Rattle.board.specs.Backing.{HostDisk}
+use Rattle.board.specs.Hosting.{DoesAsHostSays, GivesOnHost, HostOrGives, OwnGives, ToldGives, hosted_device, is_block_task, notifies_block, own_disk, told_in, waits_now}
 use Rattle.board.specs.Image.{Health}
 use Rattle.board.specs.Machine.{Gives, GivesBy, GivesOverImage, register, resized, task_at, with_write}
 use Rattle.board.specs.Outcome.{IsDetermined, Outcome, does, replies}
@@ -287,19 +289,35 @@ module _ {A : Type 0} (Here There : Outcome A → Type 0) (old : SlotState) (m :
   own_over true h = replied_over _ h
   own_over false h = rw silent_too (beside (rw silent at h))
 
-  did_over : (new : SlotState) → new.memory ≡ old.memory → outcome ≡ does new
-      → Stays (λ (o : Outcome A). o ≡ does (over_memory m new)) old.memory m outcome
-  did_over new stays h = (ap (λ (o : Outcome A). o.state.memory) h ∙ stays, ap (outcome_over m) h)
+  -- what the disk does for which memory has no part
+  says_over : (said : HostEvent) (h : DoesAsHostSays said old outcome.state)
+      → (outcome.state.memory ≡ old.memory)
+      × QueueTold said (hosted_device old) old.on_hold (queue_of m old.block (own_disk old))
+      (queue_of m outcome.state.block h.disk)
+      → outcome ≡ does outcome.state → Stays (ToldGives true said (over_memory m old)) old.memory m outcome
+  says_over said h over done = (
+    over.0,
+    (
+      record { disk = h.disk; does = record { queue = over.1; is = h.does.is }; is = ap (over_memory m) h.is },
+      ap (outcome_over m) done,
+    ),
+  )
 
-  drop_over : (any : Bool) → DropGives any old outcome
-      → Stays (DropGives any (over_memory m old)) old.memory m outcome
+  -- its queue then, by an equation
+  queue_over : (q q' : HostedQueue) → q' ≡ q
+      → (q'.memory ≡ q.memory) × ◌≡◌ {A = HostedQueue} (record q' { memory = m }) (record q { memory = m })
+  queue_over q q' is =
+      (ap (λ (k : HostedQueue). k.memory) is, ap (λ (k : HostedQueue). record k { memory = m }) is)
+
+  drop_over : (effect : Bool) → ToldGives effect Drop old outcome
+      → Stays (ToldGives effect Drop (over_memory m old)) old.memory m outcome
   drop_over false h = replied_over _ h
-  drop_over true h = did_over (dropped old) refl h
+  drop_over true h = says_over Drop h.0 (queue_over _ _ h.0.does.queue) h.1
 
-  hold_over : (on_hold : Bool) → HoldGives on_hold old outcome
-      → Stays (HoldGives on_hold (over_memory m old)) old.memory m outcome
-  hold_over true h = replied_over _ h
-  hold_over false h = did_over (held old) refl h
+  hold_over : (effect : Bool) → ToldGives effect Hold old outcome
+      → Stays (ToldGives effect Hold (over_memory m old)) old.memory m outcome
+  hold_over false h = replied_over _ h
+  hold_over true h = says_over Hold h.0 (queue_over _ _ h.0.does.queue) h.1
 
   host_over : (found : Option HostEvent) → told_in what ≡ found → touches_memory what old ≡ false
       → HostOrGives Here found old what outcome
@@ -307,8 +325,8 @@ module _ {A : Type 0} (Here There : Outcome A → Type 0) (old : SlotState) (m :
   host_over None is none h = own_over (waits_now what old.host) h
   host_over (Some (Complete tag verdict)) is none h =
       let touches = completion_touches what old tag verdict is in absurd (cc (touches, none))
-  host_over (Some Drop) is none h = drop_over (is_any (tags_in old.host)) h
-  host_over (Some Hold) is none h = hold_over old.on_hold h
+  host_over (Some Drop) is none h = drop_over (has_effect Drop (own_disk old)) h
+  host_over (Some Hold) is none h = hold_over (has_effect Hold (own_disk old)) h
   host_over (Some Release) is none h =
       let touches = release_touches what old is in absurd (cc (touches, none))
 

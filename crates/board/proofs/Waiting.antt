@@ -24,7 +24,7 @@ use Rattle.hosted_disk.proofs.Looking.{KeepsTag, keeps_tag, landing_keeps, look_
 use Rattle.board.specs.Waiting.{may_wait, waits_beside}
 use Rattle.board.proofs.FurtherDevices.{device_may_wait}
 use Rattle.board.proofs.Replies.{busy_over_image, idle_over_image}
-use Rattle.board.proofs.Ways.{Drops, Holds, Lands, Looks, Passes, Releases, Rests, Waits, Way, by_disk, must_by}
+use Rattle.board.proofs.Ways.{Looks, Passes, Rests, Says, Waits, Way, by_disk, must_by}
 
 -- ---- what doesn't end it
 
@@ -99,11 +99,7 @@ waited_by old what before outcome (Looks rings looks h) is =
     let done = ap (λ o. o.reply) h in absurd (cc)
 waited_by old what before outcome (Rests said tells h) is =
     let idle = ap (λ o. o.reply) h in absurd (cc)
-waited_by old what before outcome (Lands tag verdict tells completes h) is =
-    let done = ap (λ o. o.reply) h in absurd (cc)
-waited_by old what before outcome (Drops tells h) is = let done = ap (λ o. o.reply) h in absurd (cc)
-waited_by old what before outcome (Holds tells h) is = let done = ap (λ o. o.reply) h in absurd (cc)
-waited_by old what before outcome (Releases tells looks h) is =
+waited_by old what before outcome (Says said tells says h) is =
     let done = ap (λ o. o.reply) h in absurd (cc)
 
 -- and the image has no part in it
@@ -153,11 +149,7 @@ rested_by old what before outcome (Passes own free quiet h) is =
 rested_by old what before outcome (Looks rings looks h) is =
     let done = ap (λ o. o.reply) h in absurd (cc)
 rested_by old what before outcome (Rests said tells h) is = h
-rested_by old what before outcome (Lands tag verdict tells completes h) is =
-    let done = ap (λ o. o.reply) h in absurd (cc)
-rested_by old what before outcome (Drops tells h) is = let done = ap (λ o. o.reply) h in absurd (cc)
-rested_by old what before outcome (Holds tells h) is = let done = ap (λ o. o.reply) h in absurd (cc)
-rested_by old what before outcome (Releases tells looks h) is =
+rested_by old what before outcome (Says said tells says h) is =
     let done = ap (λ o. o.reply) h in absurd (cc)
 
 pub rested : {A : Type 0} (host : Option HostDisk) (old : SlotState) (what : EventKind A) (before after : Health)

@@ -1,15 +1,12 @@
 -- What comes of an event of a guest whose disk the host serves, said apart.
-use Rattle.std.proofs.Common.{◌≡◌, Bool, true, false, ℕ, Option, Some, None, get_or, refl}
+use Rattle.std.proofs.Common.{◌≡◌, Bool, true, false, Option, Some, None, refl}
 use Rattle.std.specs.Prelude.{◌&&◌}
-use Rattle.block_device.specs.declared.operation.Verdict.{Verdict}
-use Rattle.block_device.specs.Flights.{InFlight}
-use Rattle.block_device.specs.Tags.{is_any}
 use Rattle.board.specs.declared.event.EventKind.{EventKind}
 use Rattle.block_device.specs.declared.operation.HostEvent.{HostEvent}
-use Rattle.block_device.specs.declared.operation.HostEvent.TheVariants.{Complete, Drop, Hold, Release}
+use Rattle.hosted_disk.specs.Told.{has_effect}
 use Rattle.board.specs.declared.reply.Reply.TheVariants.{Busy, Idle}
-use Rattle.board.specs.Backing.{HostDisk, tags_in}
-use Rattle.board.specs.Hosting.{CompletesTag, CompletionGives, DropGives, HoldGives, HostGives, HostOrGives, LooksAtQueue, LooksOrGives, OwnGives, ReleaseGives, dropped, held, notifies_block, released, told_in, waits_now}
+use Rattle.board.specs.Backing.{HostDisk}
+use Rattle.board.specs.Hosting.{DoesAsHostSays, HostOrGives, LooksAtQueue, LooksOrGives, OwnGives, ToldGives, notifies_block, own_disk, told_in, waits_now}
 use Rattle.board.specs.Image.{Health}
 use Rattle.board.specs.Machine.{readied}
 use Rattle.board.specs.Outcome.{Outcome, does, replies}
@@ -17,7 +14,7 @@ use Rattle.board.specs.Slot.{SlotState}
 use Rattle.board.specs.World.{MayGiveBy, MayGiveOverImage}
 
 -- It waits for what is in flight, or the disk has no part in it; its notification is looked at; or the host says
--- something: there is nothing to do, what is in flight is completed or given up, or the slot is held or released.
+-- something: there is nothing to do, or the disk does it.
 pub data Way {A : Type 0} (Beside : Outcome A → Type 0) (old : SlotState) (what : EventKind A)
     (outcome : Outcome A) : Type 0 where
   Waits : waits_now what old.host ≡ true → outcome ≡ replies old Busy → Way Beside old what outcome
@@ -28,15 +25,15 @@ pub data Way {A : Type 0} (Beside : Outcome A → Type 0) (old : SlotState) (wha
       notifies_block what old ≡ true → LooksAtQueue (readied what old) outcome.state
       → outcome ≡ does outcome.state → Way Beside old what outcome
   Rests : (said : HostEvent) → told_in what ≡ Some said → outcome ≡ replies old Idle → Way Beside old what outcome
-  Lands :
-      (tag : ℕ) (verdict : Verdict) → told_in what ≡ Some (Complete tag verdict)
-      → CompletesTag tag verdict old outcome.state → outcome ≡ does outcome.state
-      → Way Beside old what outcome
-  Drops : told_in what ≡ Some Drop → outcome ≡ does (dropped old) → Way Beside old what outcome
-  Holds : told_in what ≡ Some Hold → outcome ≡ does (held old) → Way Beside old what outcome
-  Releases :
-      told_in what ≡ Some Release → LooksAtQueue (released old) outcome.state → outcome ≡ does outcome.state
-      → Way Beside old what outcome
+  Says :
+      (said : HostEvent) → told_in what ≡ Some said → DoesAsHostSays said old outcome.state
+      → outcome ≡ does outcome.state → Way Beside old what outcome
+
+-- where there is something to do, the disk does it
+pub told_says : {A : Type 0} (effect : Bool) (said : HostEvent) (old : SlotState) (outcome : Outcome A) → effect ≡ true
+    → ToldGives effect said old outcome → DoesAsHostSays said old outcome.state
+told_says true said old outcome is h = h.0
+told_says false said old outcome is h = absurd (cc is)
 
 -- what waits now is of those that must
 pub must_by : (any waits : Bool) → (any && waits) ≡ true → waits ≡ true
@@ -56,38 +53,15 @@ module _ {A : Type 0} (Beside : Outcome A → Type 0) (old : SlotState) (what : 
   own_way true own is h = Waits is h
   own_way false own is h = looks_way (notifies_block what old) own is refl h
 
-  completion_way : (found : Option InFlight) (tag : ℕ) (verdict : Verdict)
-      → told_in what ≡ Some (Complete tag verdict) → CompletionGives found tag verdict old outcome
+  told_way : (effect : Bool) (said : HostEvent) → told_in what ≡ Some said → ToldGives effect said old outcome
       → Way Beside old what outcome
-  completion_way None tag verdict is h = Rests (Complete tag verdict) is h
-  completion_way (Some here) tag verdict is h = Lands tag verdict is h.0 h.1
-
-  drop_way : (any : Bool) → told_in what ≡ Some Drop → DropGives any old outcome → Way Beside old what outcome
-  drop_way false is h = Rests Drop is h
-  drop_way true is h = Drops is h
-
-  hold_way : (on_hold : Bool) → told_in what ≡ Some Hold → HoldGives on_hold old outcome
-      → Way Beside old what outcome
-  hold_way true is h = Rests Hold is h
-  hold_way false is h = Holds is h
-
-  release_way : (on_hold : Bool) → told_in what ≡ Some Release → ReleaseGives on_hold old outcome
-      → Way Beside old what outcome
-  release_way false is h = Rests Release is h
-  release_way true is h = Releases is h.0 h.1
-
-  host_way : (said : HostEvent) → told_in what ≡ Some said → HostGives said old outcome
-      → Way Beside old what outcome
-  host_way (Complete tag verdict) is h =
-      completion_way (get_or (tags_in old.host) tag None) tag verdict is h
-  host_way Drop is h = drop_way (is_any (tags_in old.host)) is h
-  host_way Hold is h = hold_way old.on_hold is h
-  host_way Release is h = release_way old.on_hold is h
+  told_way false said is h = Rests said is h
+  told_way true said is h = Says said is h.0 h.1
 
   way_by : (found : Option HostEvent) → told_in what ≡ found → HostOrGives Beside found old what outcome
       → Way Beside old what outcome
   way_by None is h = own_way (waits_now what old.host) is refl h
-  way_by (Some said) is h = host_way said is h
+  way_by (Some said) is h = told_way (has_effect said (own_disk old)) said is h
 
   pub way : HostOrGives Beside (told_in what) old what outcome → Way Beside old what outcome
   way h = way_by (told_in what) refl h

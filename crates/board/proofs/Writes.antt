@@ -45,7 +45,7 @@ use Rattle.board.specs.declared.event.EventKind.TheVariants.{Write, MemRead, Mem
 use Rattle.board.specs.declared.event.EventKind.TheVariants as kind
 use Rattle.board.specs.declared.pause.Service.TheVariants as service
 use Rattle.board.specs.declared.reply.Reply.{Reply}
-use Rattle.board.specs.Hosting.{CompletesTag, LooksAtQueue, hosted_device, hosted_queue, released}
+use Rattle.board.specs.Hosting.{LooksAtQueue, hosted_device, own_disk}
 use Rattle.board.specs.Image.{Health}
 use Rattle.board.specs.Marking.{IsForDevices}
 use Rattle.board.specs.Machine.{GivesOverImage, readied, task_at, with_write}
@@ -57,7 +57,7 @@ use Rattle.board.specs.Task.{Finishes, Nothing, PutOut, Serve, Task}
 use Rattle.board.specs.World.{IsCutShort, IsRefused, MayGive, MayGiveOverImage}
 use Rattle.board.proofs.Chains.{KeptByEach, kept, kept_by_all, kept_by_end}
 use Rattle.hosted_disk.proofs.Looking.{IsLeftByLandings, IsLeftByLooks, landing_left, look_left, unless_left}
-use Rattle.board.proofs.Ways.{Drops, Holds, Lands, Looks, Passes, Releases, Rests, Waits, Way, by_disk}
+use Rattle.board.proofs.Ways.{Looks, Passes, Rests, Says, Waits, Way, by_disk}
 
 -- it holds of what is left as it was, of two steps if of each, and of a write
 pub record IsLeftByWrites (K : Memory → Memory → Type 0) : Type 0 where
@@ -184,14 +184,8 @@ module _ (K : Memory → Memory → Type 0) (left : IsLeftByWrites K) where
 
   looks_left : (old new : SlotState) → LooksAtQueue old new → K old.memory new.memory
   looks_left old new h =
-      unless_left MemoryLeft memory_left old.on_hold (hosted_device old) (hosted_queue old) (hosted_queue new) h.looks
-
-  completes_left : (tag : ℕ) (verdict : Verdict) (old new : SlotState) → CompletesTag tag verdict old new
-      → K old.memory new.memory
-  completes_left tag verdict old new h =
-      left.both old.memory h.landed.memory new.memory
-      (landing_left MemoryLeft memory_left landings_left tag verdict (hosted_queue old) (hosted_queue h.landed)
-      h.lands.lands) (looks_left h.landed new h.looks)
+      unless_left MemoryLeft memory_left old.on_hold (hosted_device old) (queue_of old.memory old.block (own_disk old))
+      (queue_of new.memory new.block h.disk) h.does.looks
 
   -- ---- an event
 
@@ -253,7 +247,7 @@ module _ (K : Memory → Memory → Type 0) (left : IsLeftByWrites K) where
       notified_left _ 1 (queue_at 1 v) h.serves.notified.ending m n v w _ _ h.serves.notified.notified
   serves_left (ConsoleModel terminal) (suc (suc q)) m n v w model' h = same_left m n h.serves.memory
 
-  -- what the host says of a further disk
+  -- what the host says of a disk
   told_queue_left : (said : HostEvent) (device : BlockDevice) (on_hold : Bool) (old new : HostedQueue)
       → QueueTold said device on_hold old new → K old.memory new.memory
   told_queue_left (host.Complete tag verdict) device on_hold old new h =
@@ -390,14 +384,11 @@ module _ (K : Memory → Memory → Type 0) (left : IsLeftByWrites K) where
   on_host_left state what health outcome own (Looks rings looks h) =
       subst (λ (m : Memory). K m outcome.state.memory) (readied_memory what state)
       (looks_left (readied what state) outcome.state looks)
-  on_host_left state what health outcome own (Lands tag verdict is completes h) =
-      completes_left tag verdict state outcome.state completes
-  on_host_left state what health outcome own (Releases is looks h) =
-      looks_left (released state) outcome.state looks
+  on_host_left state what health outcome own (Says said is says h) =
+      told_queue_left said (hosted_device state) state.on_hold (queue_of state.memory state.block (own_disk state))
+      (queue_of outcome.state.memory outcome.state.block says.disk) says.does.queue
   on_host_left state what health outcome own (Waits waits h) = state_left state outcome _ h refl
   on_host_left state what health outcome own (Rests said is h) = state_left state outcome _ h refl
-  on_host_left state what health outcome own (Drops is h) = state_left state outcome _ h refl
-  on_host_left state what health outcome own (Holds is h) = state_left state outcome _ h refl
 
   -- the law
   pub event_left : {A : Type 0} (state : SlotState) (what : EventKind A) (before after : Health)

@@ -20,8 +20,8 @@ use Rattle.board.specs.declared.event.DeviceEvent.{DeviceEvent}
 use Rattle.board.specs.declared.event.DeviceEvent.TheVariants as device
 use Rattle.board.specs.declared.event.EventKind.{EventKind}
 use Rattle.board.specs.declared.event.EventKind.TheVariants.{Device, Host}
-use Rattle.board.specs.Backing.{tags_in, with_tags}
-use Rattle.board.specs.Hosting.{hosted_device, notifies_block, tag_of, told_in, waits_now}
+use Rattle.board.specs.Backing.{tags_in}
+use Rattle.board.specs.Hosting.{notifies_block, own_disk, tag_of, told_in, waits_now, with_own}
 use Rattle.board.specs.Slot.{SlotState}
 use Rattle.board.specs.Waiting.{waits_beside}
 
@@ -37,10 +37,7 @@ pub record DiskUnit : Type 0 where
 
 -- the slot's own
 abbrev pub own_unit : SlotState → DiskUnit
-own_unit state = record {
-  window = state.block;
-  disk = record { device = hosted_device state; tags = tags_in state.host; on_hold = state.on_hold };
-}
+own_unit state = record { window = state.block; disk = own_disk state }
 
 -- and a further device, if it is one
 abbrev pub unit_of : DeviceState → Option DiskUnit
@@ -67,12 +64,7 @@ unit_queue m unit = queue_of m unit.window unit.disk
 
 -- the slot with this memory, and with this disk in the place of that one
 abbrev pub with_disk : SlotDisk → Memory → DiskUnit → SlotState → SlotState
-with_disk Own m unit state = record state {
-  memory = m;
-  block = unit.window;
-  host = with_tags unit.disk.tags state.host;
-  on_hold = unit.disk.on_hold;
-}
+with_disk Own m unit state = with_own m unit.window unit.disk state
 with_disk (Further n) m unit state = record state {
   memory = m;
   devices = slice_set state.devices n (record { window = unit.window; model = Block unit.disk });

@@ -21,7 +21,7 @@ use Rattle.console_device.specs.Config.{console_features}
 use Rattle.board.specs.declared.spec.Backing.{Backing}
 use Rattle.board.specs.declared.spec.Backing.TheVariants.{Image, Host}
 use Rattle.board.specs.declared.spec.SlotSpec.{SlotSpec}
-use Rattle.board.specs.Backing.{HostDisk, sectors_by, tags_in}
+use Rattle.board.specs.Backing.{HostDisk, OwnDisk, sectors_by, tags_in}
 use Rattle.board.specs.Image.{sectors_of}
 
 -- All that one guest can see: its memory, the bytes of its extent of the image, the spare sectors behind that, which its
@@ -178,6 +178,16 @@ spare_by (Host depth) spare = 0
 abbrev pub host_by : Backing → Extent → Option HostDisk
 host_by Image extent = None
 host_by (Host depth) extent = Some (record { sectors = extent.count; tags = replicate depth None })
+
+-- its own disk, as it is opened
+abbrev pub opened_disk : SlotSpec → OwnDisk
+opened_disk spec = record {
+  extent = extent_by spec.backing spec.extent;
+  host = host_by spec.backing spec.extent;
+  on_hold = false;
+  read_only = spec.read_only;
+  identity = spec.identity;
+}
 
 -- a slot of a new board: its memory is all zeros, its windows are as after a reset, nothing is pending or met
 -- a refusal yet, it has no further device, and the rest is as it was asked for

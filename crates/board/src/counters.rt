@@ -1,7 +1,7 @@
 //! What a guest's devices did since its board was made. It is counted beside the proof: no clause speaks of the numbers,
 //! and tests compare them.
 
-use block_device::Verdict;
+use block_device::{HostEvent, Verdict};
 use chain::Counts;
 use mmio_window::Action;
 
@@ -42,9 +42,15 @@ impl Counters {
         self.refusals = self.refusals.wrapping_add(1);
     }
 
-    /// Counts a completion that says that an operation failed.
-    pub(crate) fn completed(&mut self, verdict: Verdict) {
-        if verdict == Verdict::Failed {
+    /// Counts what the host says that an operation failed.
+    pub(crate) fn told(&mut self, said: HostEvent) {
+        if matches!(
+            said,
+            HostEvent::Complete {
+                verdict: Verdict::Failed,
+                ..
+            }
+        ) {
             self.refused();
         }
     }

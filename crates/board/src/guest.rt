@@ -4,8 +4,7 @@
 //! block window and a restore wait for the completions, or for a drop, and everything else is done at once. What comes of an event is stated
 //! against the one-slot machine. `access` is what an embedder reaches between events, and `saved` the slot's snapshot.
 
-ghost use Rattle.std.specs.Prelude.{◌≡◌, ◌≢◌, ◌||◌, ℕ, if◌then◌else◌, List, None, Some, true, IfOk, IsSome, get_or, not};
-ghost use Rattle.std.specs.Bool.{OnTrue, OnFalse};
+ghost use Rattle.std.specs.Prelude.{◌≡◌, ◌≢◌, ◌||◌, ℕ, List, Some, IfOk, IsSome};
 ghost use Rattle.guest_memory.specs.Faults.{AreGood as AreGoodRegions};
 ghost use Rattle.block_device.specs.Extent.{IsWithin, TouchesExtent};
 ghost use Rattle.block_device.specs.Tags.{is_any};
@@ -13,7 +12,7 @@ ghost use Rattle.board.specs.declared.pause.Turn.{Turn};
 ghost use Rattle.board.specs.declared.reply.Reply.{Reply};
 ghost use Rattle.board.specs.Backing.{tags_in};
 ghost use Rattle.board.specs.Fault.{HasRoom};
-ghost use Rattle.board.specs.Hosting.{CompletesTag, HostGives, LooksAtQueue, dropped, must_wait, released, waits_now};
+ghost use Rattle.board.specs.Hosting.{HostGives, must_wait, waits_now};
 ghost use Rattle.board.specs.Image.{Health, sectors_of};
 ghost use Rattle.board.specs.Lent.{opened_over};
 ghost use Rattle.board.specs.Outcome.{replies};
@@ -30,7 +29,7 @@ use crate::pause::{Pause, Service, Turn, Work};
 use crate::reply::Reply;
 use crate::slot::{Answer, Slot};
 use crate::spec::SlotSpec;
-use block_device::{HostEvent, Verdict};
+use block_device::HostEvent;
 use chain::Budget;
 use console_device::Outlet;
 use guest_memory::GuestMemory;
@@ -259,82 +258,20 @@ impl<A: Allocator + Copy> Guest<A> {
 
 impl<A: Allocator> Guest<A> {
     // Does what the host says of the disk that it serves.
-    fn told(&mut self, told: HostEvent) -> Reply<A>
+    fn told(&mut self, said: HostEvent) -> Reply<A>
         ensures gives { IsSome self.old.host → (image : List ℕ) →
-            HostGives {A = A} told (state_of image self.old) (replies (state_of image self.new) result) }
+            HostGives {A = A} said (state_of image self.old) (replies (state_of image self.new) result) }
         ensures place { KeepsPlace self.old self.new }
         ensures disturbed { self.new.disturbed ≡ self.old.disturbed }
         ensures there { result ≢ Reply.BadSlot }
         ensures in_range { result ≢ Reply.BadRange }
         ensures no_memory { result ≢ Reply.NoMemory }
     {
-        let done = match told {
-            HostEvent::Complete { tag, verdict } => self.complete(tag, verdict),
-            HostEvent::Drop => self.give_up(),
-            HostEvent::Hold => self.hold(),
-            HostEvent::Release => self.release(),
-        };
-        if done { Reply::Done } else { Reply::Idle }
-    }
-
-    // Completes the operation of this tag, and looks at the queue again. False where no operation has the tag.
-    fn complete(&mut self, tag: u8, verdict: Verdict) -> bool
-        ensures completes { OnTrue result (IsSome self.old.host → (image : List ℕ) →
-            CompletesTag tag verdict (state_of image self.old) (state_of image self.new)) }
-        ensures idle { OnFalse result (get_or (tags_in self.old.host) tag None ≡ None) }
-        ensures kept { OnFalse result (self.new ≡ self.old) }
-        ensures place { KeepsPlace self.old self.new }
-        ensures disturbed { self.new.disturbed ≡ self.old.disturbed }
-    {
-        let done = self.slot.land(tag, verdict);
-        if done {
-            self.slot.look();
+        if self.slot.tell(said) {
+            Reply::Done
+        } else {
+            Reply::Idle
         }
-        done
-    }
-
-    // Gives up what is in flight. False where nothing is.
-    fn give_up(&mut self) -> bool
-        ensures gives { IsSome self.old.host → (image : List ℕ) →
-            state_of image self.new ≡ if result then dropped (state_of image self.old) else state_of image self.old }
-        ensures value { result ≡ is_any (tags_in self.old.host) }
-        ensures place { KeepsPlace self.old self.new }
-        ensures disturbed { self.new.disturbed ≡ self.old.disturbed }
-    {
-        let busy = self.is_busy();
-        if busy {
-            self.slot.give_up();
-        }
-        busy
-    }
-
-    // Has no further chain taken. False where the slot is on hold already.
-    fn hold(&mut self) -> bool
-        ensures gives { self.new ≡ record self.old { on_hold = true } }
-        ensures value { result ≡ not self.old.on_hold }
-    {
-        let free = !self.slot.is_on_hold();
-        if free {
-            self.slot.set_on_hold(true);
-        }
-        free
-    }
-
-    // Has chains taken again, and looks at the queue. False where the slot isn't on hold.
-    fn release(&mut self) -> bool
-        ensures looks { OnTrue result (IsSome self.old.host → (image : List ℕ) →
-            LooksAtQueue (released (state_of image self.old)) (state_of image self.new)) }
-        ensures value { result ≡ self.old.on_hold }
-        ensures kept { OnFalse result (self.new ≡ self.old) }
-        ensures place { KeepsPlace self.old self.new }
-        ensures disturbed { self.new.disturbed ≡ self.old.disturbed }
-    {
-        let on_hold = self.slot.is_on_hold();
-        if on_hold {
-            self.slot.set_on_hold(false);
-            self.slot.look();
-        }
-        on_hold
     }
 
     /// Whether no further chain of the guest's disk is taken.

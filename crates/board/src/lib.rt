@@ -8,7 +8,7 @@
 //! `board` is the board. `spec` says what it is made of, `check` and `fault` why one is refused;
 //! `event` is what comes in, `in_place` an event whose bytes the caller has, and `reply` what goes out, and `pause` what a turn of a slot is asked and comes to,
 //! whose service may pause, and `task` what a write leaves to be done. `slot` serves one guest, its memory, its two windows
-//! and its two devices, and knows of no other; `counters` is what it counts of them,
+//! and its two devices, and knows of no other; `own_disk` is who has its disk; `counters` is what it counts of them,
 //! `opening` opens the slots of a board, and `lent` makes a slot's memory of a host's bytes. `laws` has what holds of every
 //! run by itself.
 #![tactic(auto)]
@@ -20,11 +20,11 @@ mod counters;
 mod event;
 mod fault;
 mod guest;
-mod host_disk;
 mod in_place;
 mod laws;
 mod lent;
 mod opening;
+mod own_disk;
 mod pause;
 mod refusal;
 mod reply;

@@ -6,14 +6,13 @@
 //! from outside, and `devices` the further devices.
 
 ghost use Rattle.std.specs.Prelude.{◌≡◌, ◌≢◌, ◌||◌, ℕ, List, IfOk};
-ghost use Rattle.std.specs.Option.{option_map};
 ghost use Rattle.guest_memory.specs.Faults.{AreGood as AreGoodRegions};
 ghost use Rattle.guest_memory.specs.Pages.{bits_of};
 ghost use Rattle.guest_memory.specs.Memory.{Inside, IsRest};
 ghost use Rattle.block_device.specs.Extent.{IsWithin, TouchesExtent};
 ghost use Rattle.board.specs.Lending.{LendsBytes, with_page_bits};
 ghost use Rattle.board.specs.Pausing.{BeginsOverImage, PausesByLimit, ServesOver, lacks_memory_in};
-ghost use Rattle.board.specs.Slot.{AreInterruptWords, IsUnnoted, host_by, interrupt_words, opened, state_of, whole_extent};
+ghost use Rattle.board.specs.Slot.{AreInterruptWords, IsUnnoted, interrupt_words, opened, state_of, whole_extent};
 ghost use Rattle.board.specs.World.{MayLackMemory};
 ghost use Rattle.board.specs.Fault.{HasRoom};
 ghost use Rattle.board.specs.Lent.{opened_over};
@@ -32,15 +31,14 @@ mod service;
 mod view;
 mod window;
 
-use crate::check::{own_extent, spare};
+use crate::check::spare;
 use crate::counters::Counters;
 use crate::event::EventKind;
-use crate::host_disk::HostedDisk;
+use crate::own_disk::OwnDisk;
 use crate::pause::Turn;
 use crate::reply::Reply;
 pub(crate) use crate::slot::memory::copy_out;
-use crate::spec::{Backing, SlotSpec};
-use block_device::BlockDevice;
+use crate::spec::SlotSpec;
 use chain::{Budget, Chain};
 use console_device::{ConsoleDevice, Outlet};
 use device_list::DeviceList;
@@ -55,14 +53,9 @@ use std_alloc::vec::Lodged;
 #[derive(Drop)]
 pub(crate) struct Slot<A: Allocator = Global> {
     memory: GuestMemory<A>,
-    // Its extent is what the slot has of the image, but for the spare sectors.
-    block_device: BlockDevice,
-    // How many sectors of the image the slot has behind that extent, for its further disks.
+    disk: OwnDisk<A>,
+    // How many sectors of the image the slot has behind those of its own disk, for its further disks.
     spare: u64,
-    // The disk that the host serves, in place of one of the image.
-    host: Option<Box<HostedDisk<A>, A>>,
-    // Whether no further chain of that disk's queue is taken.
-    on_hold: bool,
     block: Window,
     console_device: ConsoleDevice<A>,
     console: Window,
@@ -76,19 +69,18 @@ pub(crate) struct Slot<A: Allocator = Global> {
 }
 
 impl<A: Allocator> Model for Slot<A> {
-    ghost use Rattle.std.specs.Option.{option_map};
     ghost use Rattle.board.specs.Slot.{BoardSlot, IsSoundSlot};
 
     ghost Value = { BoardSlot };
 
     ghost view = { λ s. record {
       memory = s.memory;
-      extent = s.block_device.extent;
+      extent = s.disk.extent;
       spare = s.spare;
-      host = option_map (λ disk. disk.value) s.host;
-      on_hold = s.on_hold;
-      read_only = s.block_device.read_only;
-      identity = s.block_device.identity;
+      host = s.disk.host;
+      on_hold = s.disk.on_hold;
+      read_only = s.disk.read_only;
+      identity = s.disk.identity;
       block = s.block;
       console = s.console;
       pending = s.console_device.pending;
@@ -98,8 +90,7 @@ impl<A: Allocator> Model for Slot<A> {
       disturbed = s.disturbed;
     } };
 
-    ghost invariant = { λ s. IsSoundSlot s.memory s.block_device.read_only s.block s.console s.console_device.pending
-        s.devices };
+    ghost invariant = { λ s. IsSoundSlot s.memory s.disk.read_only s.block s.console s.console_device.pending s.devices };
 }
 
 // What came of an event, or of a piece of its service.
@@ -135,14 +126,13 @@ impl<A: Allocator + Copy> Slot<A> {
         let Ok(console_device) = ConsoleDevice::new(alloc, spec.cols, spec.rows) else {
             return Err(AllocError);
         };
-        let block_device = BlockDevice::new(own_extent(spec), spec.read_only, spec.identity);
+        let disk = OwnDisk::open(alloc, spec)?;
+        let features = disk.of_image().features();
         Ok(Slot {
             memory,
-            block_device,
+            disk,
             spare: spare(spec),
-            host: host_of(alloc, spec)?,
-            on_hold: false,
-            block: Window::new(DeviceKind::Block, block_device.features()),
+            block: Window::new(DeviceKind::Block, features),
             console: Window::new(DeviceKind::Console, console_device.features()),
             console_device,
             devices: DeviceList::new(alloc),
@@ -150,23 +140,6 @@ impl<A: Allocator + Copy> Slot<A> {
             disturbed: false,
             counters: Counters::default(),
         })
-    }
-}
-
-// The disk that the host serves a slot, if it does.
-fn host_of<A: Allocator + Copy>(
-    alloc: A,
-    spec: &SlotSpec,
-) -> Result<Option<Box<HostedDisk<A>, A>>, AllocError>
-    requires { HasRoom spec.now }
-    ensures { IfOk result (λ host. option_map (λ disk. disk.value) host ≡ host_by spec.now.backing spec.now.extent) }
-{
-    match spec.backing {
-        Backing::Image => Ok(None),
-        Backing::Host { depth } => {
-            let disk = HostedDisk::new(alloc, spec.extent.count, depth)?;
-            Ok(Some(Box::new(alloc, disk)?))
-        }
     }
 }
 
@@ -234,7 +207,7 @@ impl<A: Allocator> Slot<A> {
     /// What the slot's devices did.
     pub(crate) fn counters(&self) -> Counters {
         let counters = self.counters.with(self.chain.counts());
-        match &self.host {
+        match self.disk.host() {
             Some(disk) => counters.with(disk.counts()),
             None => counters,
         }

@@ -21,12 +21,16 @@ use Rattle.block_device.specs.declared.device.BlockDevice.{BlockDevice}
 use Rattle.block_device.specs.declared.hosting.Flight.{Flight}
 use Rattle.block_device.specs.declared.hosting.Hosted.{Hosted}
 use Rattle.block_device.specs.declared.hosting.Hosted.TheVariants.{Asks, More, Done}
+use Rattle.block_device.specs.declared.operation.HostEvent.{HostEvent}
+use Rattle.block_device.specs.declared.operation.HostEvent.TheVariants.{Complete, Drop, Hold, Release}
 use Rattle.block_device.specs.declared.operation.Verdict.{Verdict}
 use Rattle.block_device.specs.Asking.{unasked_device}
 use Rattle.block_device.specs.Flights.{HostedQueue, InFlight, IsLanding, IsLook, given_up, unlimited}
 use Rattle.block_device.specs.Hosting.{CompletesIn, HostsTo}
 use Rattle.block_device.proofs.Unasked.{any_disk}
-use Rattle.hosted_disk.proofs.Looking.{IsLeftByLandings, IsLeftByLooks, landing_left, look_left}
+use Rattle.hosted_disk.specs.Disk.{LooksUnless}
+use Rattle.hosted_disk.specs.Told.{QueueTold}
+use Rattle.hosted_disk.proofs.Looking.{IsLeftByLandings, IsLeftByLooks, landing_left, look_left, unless_left}
 
 registers_kept : (kind : DeviceKind) (change : QueueRegisters → QueueRegisters) (w : WindowState)
     → KeepsDevice w (with_registers_in (queue_of kind 0) change w)
@@ -114,3 +118,20 @@ landed_keeps true tag verdict old new lands same =
     landing_left SameDevice keeps_device landing_keeps tag verdict old new lands
 landed_keeps false tag verdict old new lands same =
     at old.window old.window new.window (ap (λ (q : HostedQueue). q.window) same) (KeepsDevice-self old.window)
+
+-- and after what the host says
+unless_keeps : (on_hold : Bool) (device : BlockDevice) (old new : HostedQueue) → LooksUnless on_hold device old new
+    → KeepsDevice old.window new.window
+unless_keeps on_hold device old new h = unless_left SameDevice keeps_device on_hold device old new h
+
+pub told_keeps : (said : HostEvent) (device : BlockDevice) (on_hold : Bool) (old new : HostedQueue)
+    → QueueTold said device on_hold old new → KeepsDevice old.window new.window
+told_keeps (Complete tag verdict) device on_hold old new h =
+    KeepsDevice-trans old.window h.landed.window new.window
+    (landing_left SameDevice keeps_device landing_keeps tag verdict old h.landed h.lands)
+    (unless_keeps on_hold device h.landed new h.looks)
+told_keeps Drop device on_hold old new h =
+    at old.window (given_up old).window new.window (ap (λ (q : HostedQueue). q.window) h) (KeepsDevice-asked old.window)
+told_keeps Hold device on_hold old new h =
+    at old.window old.window new.window (ap (λ (q : HostedQueue). q.window) h) (KeepsDevice-self old.window)
+told_keeps Release device on_hold old new h = looked_keeps device old new h

@@ -73,6 +73,13 @@ impl<A: Allocator> HostedDisk<A> {
         self.flights.is_busy() && may_stop_queues(offset)
     }
 
+    /// Has no further chain of its queue taken, or has them taken again. The queue isn't looked at.
+    pub fn set_on_hold(&mut self, on_hold: bool)
+        ensures { self.new ≡ record self.old { on_hold = on_hold } }
+    {
+        self.on_hold = on_hold;
+    }
+
     /// Serves the queue of this number in its window, which was notified: chains that ask the host for something take free tags,
     /// unless the queue is on hold. `room` is where the chains stand, one after another.
     pub fn serve<M: Allocator>(

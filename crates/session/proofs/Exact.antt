@@ -1,6 +1,6 @@
 -- When each refusal of a call comes.
 use Rattle.std.proofs.Common.{◌≡◌, ◌⊎◌, ◌↔◌, inl, inr, ℕ, ◌<◌, ◌≤◌, Bool, true, false, List, length, get_or, Option, Some, None, refl, sym, ◌∙◌, ap, subst, arith}
-use Rattle.std.specs.Prelude.{◌&&◌, ◌||◌, is_some, nat_lt, if◌then◌else◌, IsErrOf, IsSomeAnd, Result, Ok, Err}
+use Rattle.std.specs.Prelude.{◌&&◌, ◌||◌, is_some, nat_lt, not, if◌then◌else◌, IsErrOf, IsSomeAnd, Result, Ok, Err}
 use Rattle.std.specs.List.{slice_get}
 use Rattle.std.specs.Option.{option_and_then}
 use Rattle.std.proofs.lemmas.Bool.Decides.{nat_tests}
@@ -26,7 +26,7 @@ use Rattle.hosted_disk.specs.Told.{has_effect}
 use Rattle.device_list.specs.List.{disk_at}
 use Rattle.board.specs.Backing.{HostDisk, tags_in}
 use Rattle.board.specs.Devices.{reply_at, waits_for_disk}
-use Rattle.board.specs.Hosting.{CompletionGives, DropGives, HoldGives, HostGives, HostOrGives, OwnGives, ReleaseGives, has_part, must_wait, told_in, waits_now}
+use Rattle.board.specs.Hosting.{HostGives, HostOrGives, OwnGives, ToldGives, has_part, must_wait, own_disk, told_in, waits_now}
 use Rattle.board.specs.Image.{Health}
 use Rattle.board.specs.Outcome.{Outcome, replies}
 use Rattle.board.specs.Pausing.{Begins, asked, asked_over_image}
@@ -177,44 +177,40 @@ module _ {A : Type 0} (state : SlotState) (outcome : Outcome A) where
   is_done : outcome.reply ≡ reply.Done → {P : Type 0} → (P → ⊥) → Rests ↔ P
   is_done done never = (λ is. absurd (cc (done, is)), λ p. absurd (never p))
 
-  completion_rests : (tag : ℕ) (verdict : Verdict) (flight : Option InFlight)
-      → CompletionGives flight tag verdict state outcome → Rests ↔ (flight ≡ None)
-  completion_rests tag verdict None h = idles h refl
-  completion_rests tag verdict (Some here) h =
-      is_done (ap (λ (o : Outcome A). o.reply) h.1) (λ none. absurd (cc (none)))
-
-  drop_rests : (any : Bool) → DropGives any state outcome → Rests ↔ (any ≡ false)
-  drop_rests false h = idles h refl
-  drop_rests true h = is_done (ap (λ (o : Outcome A). o.reply) h) (λ none. absurd (cc (none)))
-
-  -- a hold and a release, of a disk that the host serves
+  -- of a disk that the host serves
   module _ (disk : HostDisk) (here : state.host ≡ Some disk) where
     no_image : state.host ≡ None → ⊥
     no_image none = cc (here, none)
 
-    hold_rests : (on_hold : Bool) → HoldGives on_hold state outcome
-        → Rests ↔ ((state.host ≡ None) ⊎ (on_hold ≡ true))
-    hold_rests true h = idles h (inr refl)
-    hold_rests false h =
-        is_done (ap (λ (o : Outcome A). o.reply) h) (λ either. elim either [
-          | inl none ↦ no_image none
-          | inr on ↦ absurd (cc (on))
-        ])
+    not_there : (flight : Option InFlight) → (is_some flight ≡ false) ↔ (flight ≡ None)
+    not_there None = (λ none. refl, λ none. refl)
+    not_there (Some found) = (λ none. absurd (cc none), λ none. absurd (cc none))
 
-    release_rests : (on_hold : Bool) → ReleaseGives on_hold state outcome
-        → Rests ↔ ((state.host ≡ None) ⊎ (on_hold ≡ false))
-    release_rests false h = idles h (inr refl)
-    release_rests true h =
-        is_done (ap (λ (o : Outcome A). o.reply) h.1) (λ either. elim either [
-          | inl none ↦ no_image none
-          | inr off ↦ absurd (cc (off))
-        ])
+    is_held : (on_hold : Bool) → (not on_hold ≡ false) ↔ ((state.host ≡ None) ⊎ (on_hold ≡ true))
+    is_held true = (λ held. inr refl, λ either. refl)
+    is_held false =
+        (λ held. absurd (cc held), λ either. elim either [ inl none ↦ absurd (no_image none) | inr on ↦ absurd (cc on) ])
+
+    is_free : (on_hold : Bool) → (on_hold ≡ false) ↔ ((state.host ≡ None) ⊎ (on_hold ≡ false))
+    is_free on_hold =
+        (λ free. inr free, λ either. elim either [ inl none ↦ absurd (no_image none) | inr free ↦ free ])
+
+    without_effect : (said : HostEvent)
+        → (has_effect said (own_disk state) ≡ false) ↔ IsSpare said state.host state.on_hold
+    without_effect (Complete tag verdict) = not_there (get_or (tags_in state.host) tag None)
+    without_effect Drop = (λ none. none, λ none. none)
+    without_effect Hold = is_held state.on_hold
+    without_effect Release = is_free state.on_hold
+
+    told_rests : (effect : Bool) (said : HostEvent) → ToldGives effect said state outcome → Rests ↔ (effect ≡ false)
+    told_rests false said h = idles h refl
+    told_rests true said h = is_done (ap (λ (o : Outcome A). o.reply) h.1) (λ none. absurd (cc none))
 
     said_rests : (said : HostEvent) → HostGives said state outcome → Rests ↔ IsSpare said state.host state.on_hold
-    said_rests (Complete tag verdict) h = completion_rests tag verdict (get_or (tags_in state.host) tag None) h
-    said_rests Drop h = drop_rests (is_any (tags_in state.host)) h
-    said_rests Hold h = hold_rests state.on_hold h
-    said_rests Release h = release_rests state.on_hold h
+    said_rests said h =
+        let rests = told_rests (has_effect said (own_disk state)) said h in
+        let spare = without_effect said in
+        (λ idle. spare.0 (rests.0 idle), λ is. rests.1 (spare.1 is))
 
   -- over an image there never is anything
   over_image : (said : HostEvent) → state.host ≡ None → IsSpare said state.host state.on_hold

@@ -24,7 +24,7 @@ use Rattle.racing_guest.specs.Guest.{IsSoundGuest, RacingGuest}
 use Rattle.board.specs.declared.event.EventKind.TheVariants.{Write}
 use Rattle.board.specs.declared.event.SlotWindow.TheVariants as window
 use Rattle.board.specs.declared.reply.Reply.TheVariants.{Busy, Done}
-use Rattle.board.specs.Hosting.{LooksAtQueue, hosted_device, hosted_queue, is_block_task}
+use Rattle.board.specs.Hosting.{LooksAtQueue, hosted_device, hosted_queue, is_block_task, own_disk}
 use Rattle.board.specs.Machine.{at_rest}
 use Rattle.board.specs.Slot.{SlotState}
 use Rattle.board.specs.Task.{Finishes, task_of}
@@ -128,7 +128,11 @@ module _ (A : Type 0) where
         → NotifiesBlock false limits found old new block after.block progress.Done → BeginsSlotLook
     notified_at None at n = record {
       first = ready;
-      looks = record { looks = looks_unready (hosted_device ready) (hosted_queue ready) block.disk.on_hold at; rest = refl };
+      looks = record {
+        disk = own_disk ready;
+        does = record { looks = looks_unready (hosted_device ready) (hosted_queue ready) block.disk.on_hold at; is = refl };
+        is = refl;
+      };
       whole = λ stands. same (memory old) block.window block.disk.tags (ap memory n.memory) (ap (λ (b : RacingBlock). b.window) n.device)
           (ap (λ (b : RacingBlock). b.disk) n.device);
     }
@@ -140,9 +144,13 @@ module _ (A : Type 0) where
         record {
           first = stood b.memory b.window b.kept;
           looks = record {
-            looks = subst (λ (d : BlockDevice). hosted.LooksUnless disk.on_hold d (hosted_queue ready)
-                (queue_of b.memory b.window b.kept)) device_is b.looks;
-            rest = refl;
+            disk = record (own_disk ready) { tags = as_still b.kept };
+            does = record {
+              looks = subst (λ (d : BlockDevice). hosted.LooksUnless disk.on_hold d (hosted_queue ready)
+                  (queue_of b.memory b.window b.kept)) device_is b.looks;
+              is = refl;
+            };
+            is = refl;
           };
           whole = λ stands.
               let all = b.stands stands in

@@ -13,10 +13,12 @@ use Rattle.block_device.specs.declared.device.BlockDevice.{BlockDevice}
 use Rattle.block_device.specs.declared.operation.HostEvent.{HostEvent}
 use Rattle.block_device.specs.declared.operation.HostEvent.TheVariants.{Complete, Drop, Hold, Release}
 use Rattle.block_device.specs.declared.operation.Verdict.{Verdict}
-use Rattle.block_device.specs.Flights as still
+use Rattle.block_device.specs.Flights as still_tags
 use Rattle.block_device.specs.Hosting as hosting
 use Rattle.block_device.specs.Hosting.{wants_stable}
 use Rattle.hosted_disk.specs.Disk as hosted
+use Rattle.hosted_disk.specs.Told as still
+use Rattle.hosted_disk.specs.Told.{QueueTold, held_by}
 use Rattle.racing_hosted_disk.specs.declared.look.LookEnding.{LookEnding}
 use Rattle.racing_hosted_disk.specs.declared.look.LookEnding.TheVariants as look
 use Rattle.racing_service.specs.declared.stage.Stage.TheVariants.{First, Again}
@@ -30,10 +32,10 @@ use Rattle.racing_guest.specs.Guest.{IsSoundGuest, RacingGuest}
 use Rattle.racing_guest.proofs.Telling.{with_ring_same}
 use Rattle.board.specs.declared.event.EventKind.TheVariants.{Host}
 use Rattle.board.specs.declared.reply.Reply.TheVariants.{Done, Idle}
-use Rattle.board.specs.Hosting.{HostGives, dropped, held, hosted_device, hosted_queue, released}
+use Rattle.board.specs.Hosting.{HostGives, hosted_device, hosted_queue, own_disk}
 use Rattle.board.specs.Machine.{at_rest}
 use Rattle.board.specs.Slot.{SlotState}
-use Rattle.standing_guest.specs.Event.{BeginsWith, BlockRests, BlockStands, IsEvent}
+use Rattle.standing_guest.specs.Event.{BeginsWith, IsEvent, IsServed}
 use Rattle.standing_guest.specs.Rest.{WindowRests}
 use Rattle.standing_guest.specs.Slot.{in_flight, slot_of}
 use Rattle.standing_guest.proofs.Block.{own_device}
@@ -42,9 +44,9 @@ use Rattle.standing_guest.proofs.Landing.{is_landing, landed_closed, landed_read
 use Rattle.standing_guest.proofs.Looking.{looked, looks_unready}
 use Rattle.standing_guest.proofs.Tags.{as_still, same_any, same_at, same_freed, same_set}
 
-none_there : {X : Type 0} (o : Option X) → is_some o ≡ false → o ≡ None
-none_there None is = refl
-none_there (Some x) is = let no : true ≡ false = is in cc
+same_some : {X Y : Type 0} (f : X → Y) (o : Option X) → is_some (option_map f o) ≡ is_some o
+same_some f None = refl
+same_some f (Some x) = refl
 
 record There {X : Type 0} (o : Option X) : Type 0 where
   pub here : X
@@ -54,25 +56,20 @@ some_there : {X : Type 0} (o : Option X) → is_some o ≡ true → There o
 some_there None is = let no : false ≡ true = is in absurd cc
 some_there (Some x) is = record { here = x; is = refl }
 
-not_true : (b : Bool) → not b ≡ true → b ≡ false
-not_true true is = let no : false ≡ true = is in cc
-not_true false is = refl
-
-not_false : (b : Bool) → not b ≡ false → b ≡ true
-not_false true is = refl
-not_false false is = let no : true ≡ false = is in cc
-
 module _ (A : Type 0) where
   -- ---- nothing to do
 
+  same_effect : (what : HostEvent) (m : Memory) (guest : RacingGuest)
+      → still.has_effect what (own_disk (slot_of m guest)) ≡ has_effect what guest.block.disk
+  same_effect (Complete tag verdict) m guest =
+      ap is_some (same_at guest.block.disk.tags tag) ∙ same_some in_flight (get_or guest.block.disk.tags tag None)
+  same_effect Drop m guest = same_any guest.block.disk.tags
+  same_effect Hold m guest = refl
+  same_effect Release m guest = refl
+
   idle : (what : HostEvent) (m : Memory) (guest : RacingGuest) → has_effect what guest.block.disk ≡ false
       → HostGives {A = A} what (slot_of m guest) (record { state = slot_of m guest; reply = Idle; output = [] })
-  idle (Complete tag verdict) m guest none =
-      rw (same_at guest.block.disk.tags tag
-      ∙ ap (option_map in_flight) (none_there (get_or guest.block.disk.tags tag None) none)) refl
-  idle Drop m guest none = rw (same_any guest.block.disk.tags ∙ none) refl
-  idle Hold m guest none = rw (not_false guest.block.disk.on_hold none) refl
-  idle Release m guest none = rw none refl
+  idle what m guest none = rw (same_effect what m guest ∙ none) refl
 
   pub told_nothing : (what : HostEvent) (m : Memory) (guest : RacingGuest) → has_effect what guest.block.disk ≡ false
       → IsEvent {A = A} (slot_of m guest) (Host what) (slot_of m guest) Idle []
@@ -112,79 +109,64 @@ module _ (A : Type 0) where
         → IsEvent {A = A} state (Host what) first Done []
     event what first gives = record { after = at_rest; gives = record { gives = gives; image = refl } }
 
-    -- ---- a drop, and a hold
+    -- ---- what the host says
+
+    -- the slot, where its queue stands so
+    abbrev stood : Memory → WindowState → Tags → SlotState
+    stood m w tags = record state {
+      memory = m;
+      block = w;
+      host = Some (record { sectors = guest.block.disk.device.extent.count; tags = as_still tags });
+    }
+
+    -- and whether it is on hold is what that comes to
+    abbrev put : HostEvent → Memory → WindowState → Tags → SlotState
+    put what m w tags = record (stood m w tags) { on_hold = held_by what guest.block.disk.on_hold }
+
+    told_too : (what : HostEvent) (m : Memory) (w : WindowState) (tags : Tags)
+        → has_effect what guest.block.disk ≡ true
+        → QueueTold what (hosted_device state) state.on_hold (hosted_queue state) (queue_of m w tags)
+        → (IsServed {A = A} (Host what) state (put what m w tags) → (memory new ≡ m) × (after.block.window ≡ w)
+        × (after.block.disk
+        ≡ record guest.block.disk { tags = tags; on_hold = held_by what guest.block.disk.on_hold }))
+        → begins what
+    told_too what m w tags effect told whole = record {
+      first = put what m w tags;
+      output = [];
+      event = event what (put what m w tags) (rw (same_effect what (memory old) guest ∙ effect) (
+            record {
+              disk = record (own_disk state) {
+                tags = as_still tags;
+                on_hold = held_by what guest.block.disk.on_hold;
+              };
+              does = record { queue = told; is = refl };
+              is = refl;
+            },
+            refl,
+          ));
+      whole = λ rests.
+          let all = whole rests in
+          (same m w tags (held_by what guest.block.disk.on_hold) all.0 all.1 all.2, refl);
+    }
 
     dropped_too : (w : WindowState) → is_any guest.block.disk.tags ≡ true → memory new ≡ memory old
         → w ≡ guest.block.window → after.block.window ≡ with_reset_asked w
         → after.block.disk ≡ record guest.block.disk { tags = freed guest.block.disk.tags } → begins Drop
     dropped_too w any memories windows shown disks =
         let disk = guest.block.disk in
-        let there = same (memory old) (with_reset_asked guest.block.window) (freed disk.tags) disk.on_hold memories
-        (shown ∙ ap with_reset_asked windows) disks in
-        record {
-          first = dropped state;
-          output = [];
-          event = event Drop (dropped state) (rw (same_any disk.tags ∙ any) refl);
-          whole = λ rests. (there ∙ rw (same_freed disk.tags) refl, refl);
-        }
+        told_too Drop (memory old) (with_reset_asked guest.block.window) (freed disk.tags) any
+        (ap (λ (tags : List (Option still_tags.InFlight)). record {
+          memory = memory old;
+          window = with_reset_asked guest.block.window;
+          tags = tags;
+        }) (sym (same_freed disk.tags)))
+        (λ served. (memories, shown ∙ ap with_reset_asked windows, disks))
 
-    held_too : guest.block.disk.on_hold ≡ false → memory new ≡ memory old → after.block.window ≡ guest.block.window
+    held_too : not guest.block.disk.on_hold ≡ true → memory new ≡ memory old → after.block.window ≡ guest.block.window
         → after.block.disk ≡ record guest.block.disk { on_hold = true } → begins Hold
-    held_too free memories windows disks = record {
-      first = held state;
-      output = [];
-      event = event Hold (held state) (rw free refl);
-      whole = λ rests. (same (memory old) guest.block.window guest.block.disk.tags true memories windows disks, refl);
-    }
-
-    -- ---- a release
-
-    -- the slot, where its queue stands so
-    abbrev stood : SlotState → Memory → WindowState → Tags → SlotState
-    stood state m w tags = record state {
-      memory = m;
-      block = w;
-      host = Some (record { sectors = guest.block.disk.device.extent.count; tags = as_still tags });
-    }
-
-    released_too : (m : Memory) (w : WindowState) (tags : Tags) → guest.block.disk.on_hold ≡ true
-        → hosted.LooksUnless false (hosted_device (released state)) (hosted_queue (released state)) (queue_of m w tags)
-        → (BlockStands (memory old) (stood (released state) m w tags) → (memory new ≡ m) × (after.block.window ≡ w)
-        × (after.block.disk ≡ record guest.block.disk { tags = tags; on_hold = false })) → begins Release
-    released_too m w tags on_hold looks whole = record {
-      first = stood (released state) m w tags;
-      output = [];
-      event = event Release (stood (released state) m w tags) (rw on_hold (record { looks = looks; rest = refl }, refl));
-      whole = λ stands.
-          let all = whole stands in
-          (same m w tags false all.0 all.1 all.2, refl);
-    }
-
-    -- ---- a completion
-
-    completed_too : (tag : ℕ) (verdict : Verdict) (here : InFlight Token) (tags tags' : Tags) (m1 m2 : Memory)
-        (w1 w2 : WindowState) → get_or guest.block.disk.tags tag None ≡ Some here
-        → still.IsLanding tag verdict (hosted_queue state) (hosted_queue (stood state m1 w1 tags))
-        → hosted.LooksUnless guest.block.disk.on_hold (hosted_device (stood state m1 w1 tags))
-        (hosted_queue (stood state m1 w1 tags)) (queue_of m2 w2 tags')
-        → (BlockRests (stood state m2 w2 tags') → (memory new ≡ m2) × (after.block.window ≡ w2)
-        × (after.block.disk ≡ record guest.block.disk { tags = tags' })) → begins (Complete tag verdict)
-    completed_too tag verdict here tags tags' m1 m2 w1 w2 there lands looks whole = record {
-      first = stood state m2 w2 tags';
-      output = [];
-      event = event (Complete tag verdict) (stood state m2 w2 tags')
-          (rw (same_at guest.block.disk.tags tag ∙ ap (option_map in_flight) there) (
-            record {
-              landed = stood state m1 w1 tags;
-              lands = record { lands = lands; rest = refl };
-              looks = record { looks = looks; rest = refl };
-            },
-            refl,
-          ));
-      whole = λ rests.
-          let all = whole rests in
-          (same m2 w2 tags' guest.block.disk.on_hold all.0 all.1 all.2, refl);
-    }
+    held_too free memories windows disks =
+        told_too Hold (memory old) guest.block.window guest.block.disk.tags free refl
+        (λ served. (memories, windows, disks))
 
     -- ---- where the queue can't be served
 
@@ -194,21 +176,24 @@ module _ (A : Type 0) where
         let disk = guest.block.disk in
         let there = some_there (get_or disk.tags tag None) some in
         let tags = set disk.tags tag None in
-        let slot = stood state (memory old) guest.block.window tags in
-        completed_too tag verdict there.here tags tags (memory old) (memory old) guest.block.window guest.block.window there.is
+        let landed = queue_of (memory old) guest.block.window tags in
+        told_too (Complete tag verdict) (memory old) guest.block.window tags some
         (record {
-          here = in_flight there.here;
-          there = same_at disk.tags tag ∙ ap (option_map in_flight) there.is;
-          lands = rw at (ap (λ (tags : List (Option still.InFlight)). record (hosted_queue state) { tags = tags })
-              (same_set disk.tags tag));
+          landed = landed;
+          lands = record {
+            here = in_flight there.here;
+            there = same_at disk.tags tag ∙ ap (option_map in_flight) there.is;
+            lands = rw at (ap (λ (tags : List (Option still_tags.InFlight)). record (hosted_queue state) { tags = tags })
+                (same_set disk.tags tag));
+          };
+          looks = looks_unready (hosted_device state) landed disk.on_hold at;
         })
-        (looks_unready (hosted_device slot) (hosted_queue slot) disk.on_hold at)
         (λ rests. (ap memory t.memory, t.window, t.disk))
     unserved Drop some at t = dropped_too guest.block.window some (ap memory t.memory) refl t.window t.disk
-    unserved Hold some at t = held_too (not_true guest.block.disk.on_hold some) (ap memory t.memory) t.window t.disk
+    unserved Hold some at t = held_too some (ap memory t.memory) t.window t.disk
     unserved Release some at t =
-        released_too (memory old) guest.block.window guest.block.disk.tags some
-        (looks_unready (hosted_device (released state)) (hosted_queue (released state)) false at)
+        told_too Release (memory old) guest.block.window guest.block.disk.tags some
+        (looks_unready (hosted_device state) (hosted_queue state) false at)
         (λ rests. (ap memory t.memory, t.window, t.disk))
 
     -- ---- where it can
@@ -242,9 +227,13 @@ module _ (A : Type 0) where
         (landed_stable w ring c.before)
         (landed_closed disk.device tag verdict old w queue limits.budget disk.tags there c.before sound at c.lands)
         disk.on_hold t.ending (sym t.progress_is) shown c.looks in
-        completed_too tag verdict c.lands.here there.tags b.kept m1 b.memory w1 b.window c.lands.there landing
-        (subst (λ (d : BlockDevice). hosted.LooksUnless disk.on_hold d (hosted_queue (stood state m1 w1 there.tags))
-        (queue_of b.memory b.window b.kept)) device b.looks)
+        told_too (Complete tag verdict) b.memory b.window b.kept some
+        (record {
+          landed = queue_of m1 w1 there.tags;
+          lands = landing;
+          looks = subst (λ (d : BlockDevice). hosted.LooksUnless disk.on_hold d (queue_of m1 w1 there.tags)
+              (queue_of b.memory b.window b.kept)) device b.looks;
+        })
         (λ rests.
         let all = b.whole (subst (λ (d : BlockDevice). WindowRests (hosting.hosted_device d) 0 b.memory b.window tt)
         (sym device) rests) in
@@ -261,7 +250,7 @@ module _ (A : Type 0) where
     served Hold queue some at t =
         let idle = t.disk.queue in
         let stands = idle.stands in
-        held_too (not_true guest.block.disk.on_hold some)
+        held_too some
         (ap (λ (p : Place Queue Token). memory p.service.sightings) stands)
         (t.window ∙ window_stays queue t.last t.ending t.wanted at (ap (λ (p : Place Queue Token). p.service.ring) stands)
         idle.ending_is idle.unwanted)
@@ -273,8 +262,8 @@ module _ (A : Type 0) where
         let device = own_device disk.device own in
         let b = looked disk.device limits limits.budget (wants_stable w) First old new w after.block.window queue t.last t.disk.left disk.tags
         after.block.disk.tags t.wanted sound at refl tt false t.ending (sym t.progress_is) t.window t.disk.queue in
-        released_too b.memory b.window b.kept some
-        (subst (λ (d : BlockDevice). hosted.LooksUnless false d (hosted_queue (released state))
+        told_too Release b.memory b.window b.kept some
+        (subst (λ (d : BlockDevice). hosted.LooksUnless false d (hosted_queue state)
         (queue_of b.memory b.window b.kept)) device b.looks)
         (λ stands.
         let all = b.stands stands in

@@ -64,7 +64,7 @@ impl<I: Image, A: Allocator> Board<I, A> {
             IsSomeAnd (slice_get self.now.slots slot) (λ found. device ≡ device_at found)) }
     {
         let slot = self.slot(slot)?;
-        Some(slot.slot().device())
+        Some(*slot.slot().device())
     }
 
     /// Whether the host serves the slot's disk.

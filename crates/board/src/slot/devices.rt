@@ -152,7 +152,7 @@ impl<A: Allocator + Copy> Slot<A> {
             return false;
         };
         match self.devices.image_disk(device) {
-            Some(disk) => self.host.is_none() && is_within(disk.extent, self.spare),
+            Some(disk) => !self.is_hosted() && is_within(disk.extent, self.spare),
             None => false,
         }
     }

@@ -1,19 +1,20 @@
 //! Beside the image: what comes of a slot's events but for the services of disks over it, and, of a slot whose disk the host
 //! serves, the block device's looks at its queue.
 
-ghost use Rattle.std.specs.Prelude.{◌≡◌, ◌≢◌, ℕ, List, Some, None, get_or, is_err, is_some, IfErr, IfOk, OnErr, IsSome};
+ghost use Rattle.std.specs.Prelude.{◌≡◌, ◌≢◌, ◌&&◌, ℕ, List, Some, None, is_err, is_some, IfErr, IfOk, OnErr, IsSome};
 ghost use Rattle.std.specs.Bool.{OnTrue, OnFalse};
 ghost use Rattle.std.specs.Option.{option_map};
 ghost use Rattle.guest_memory.specs.Memory.{SameRange};
 ghost use Rattle.mmio_window.specs.declared.stage.Stage.{Stage};
-ghost use Rattle.board.specs.Backing.{tags_in};
+ghost use Rattle.hosted_disk.specs.Told.{has_effect};
+ghost use Rattle.board.specs.Backing.{as_hosted};
 ghost use Rattle.board.specs.declared.event.EventKind.{EventKind};
 ghost use Rattle.board.specs.declared.pause.Pause.{Pause};
 ghost use Rattle.board.specs.declared.pause.Service.{Service};
 ghost use Rattle.board.specs.declared.pause.Turn.{Turn};
 ghost use Rattle.board.specs.declared.reply.Reply.{Reply};
 ghost use Rattle.board.specs.Flights.{KeepsFlights};
-ghost use Rattle.board.specs.Hosting.{HoldsFlights, LandsTag, LooksAtQueue, dropped, device_at, notifies_block};
+ghost use Rattle.board.specs.Hosting.{DoesAsHostSays, HoldsFlights, LooksAtQueue, device_at, notifies_block, own_in};
 ghost use Rattle.board.specs.Image.{Health, sectors_of};
 ghost use Rattle.board.specs.ImageDisks.{image_served_in};
 ghost use Rattle.board.specs.Pausing.{BeginsOverImage, ComesTo, PausesByLimit, ServesTurn, asked_over_image, readied};
@@ -22,15 +23,15 @@ ghost use Rattle.board.specs.Within.{BeginsWithinOverImage, PieceWithin};
 ghost use Rattle.board.specs.World.{HasBytesToPutOut, MayLackMemory};
 
 use crate::event::{EventKind, SlotWindow};
-use crate::host_disk::HostedDisk;
 use crate::pause::{Pause, Service, Turn};
 use crate::reply::Reply;
 use crate::slot::Slot;
 use crate::slot::window::reply_to;
 use crate::task::Task;
-use block_device::{BlockDevice, Extent, Verdict};
+use block_device::{BlockDevice, HostEvent};
 use chain::Budget;
 use console_device::{NoMemory, Outlet};
+use hosted_disk::HostedDisk;
 use mmio_window::Stage;
 use std::alloc::Allocator;
 
@@ -187,52 +188,36 @@ impl<A: Allocator + Copy> Slot<A> {
 }
 
 impl<A: Allocator> Slot<A> {
-    /// Whether the host serves the slot's disk.
+    /// Whether the host serves the slot's own disk.
     #[inline(always)]
     pub(crate) fn is_hosted(&self) -> bool
         ensures { result ≡ is_some self.now.host }
     {
-        self.host.is_some()
+        self.disk.host().is_some()
     }
 
     /// What is in flight, with the disk that it is of, where the host serves it.
     pub(crate) fn host(&self) -> Option<&HostedDisk<A>>
-        ensures { option_map (λ disk. disk.now) result ≡ self.now.host }
+        ensures { option_map (λ disk. disk.now) result ≡ option_map (λ host. as_hosted (own_in self.now)) self.now.host }
     {
-        match &self.host {
-            Some(disk) => Some(&**disk),
-            None => None,
-        }
+        self.disk.host()
     }
 
     /// The block device as its guest knows it.
-    pub(crate) fn device(&self) -> BlockDevice
-        ensures { result ≡ device_at self.now }
+    pub(crate) fn device(&self) -> &BlockDevice
+        ensures { result.now ≡ device_at self.now }
     {
-        match &self.host {
-            Some(disk) => BlockDevice {
-                extent: Extent {
-                    start: 0,
-                    count: disk.sectors(),
-                },
-                ..self.block_device
-            },
-            None => self.block_device,
-        }
+        self.disk.device()
     }
 
-    /// Whether no further chain of the slot's disk is taken.
+    /// Whether no further chain of the slot's own disk is taken.
     pub(crate) fn is_on_hold(&self) -> bool
         ensures { result ≡ self.now.on_hold }
     {
-        self.on_hold
-    }
-
-    /// Has no further chain of the slot's disk taken, or has them taken again.
-    pub(crate) fn set_on_hold(&mut self, on_hold: bool)
-        ensures { self.new ≡ record self.old { on_hold = on_hold } }
-    {
-        self.on_hold = on_hold;
+        match self.disk.host() {
+            Some(disk) => disk.is_on_hold(),
+            None => false,
+        }
     }
 
     /// The block device looks at its queue, whatever is in flight, unless the slot is on hold. Nothing is done where the disk
@@ -241,7 +226,6 @@ impl<A: Allocator> Slot<A> {
         requires held { HoldsFlights self.old }
         ensures looks { IsSome self.old.host → (image : List ℕ) →
             LooksAtQueue (state_of image self.old) (state_of image self.new) }
-        ensures kept { self.old.host ≡ None → self.new ≡ self.old }
         ensures held { HoldsFlights self.new }
         ensures rest { self.new ≡ record self.old {
           memory = self.new.memory;
@@ -249,53 +233,26 @@ impl<A: Allocator> Slot<A> {
           host = self.new.host;
         } }
     {
-        if self.on_hold {
-            return;
-        }
-        let device = self.device();
-        let Some(disk) = &mut self.host else {
-            return;
-        };
-        disk.look(device, &mut self.memory, &mut self.block, &mut self.chain);
+        let (memory, room) = (&mut self.memory, &mut self.chain);
+        self.disk.look(memory, &mut self.block, room);
     }
 
-    /// Completes the operation of this tag. False where no operation has the tag: nothing has changed then.
-    pub(crate) fn land(&mut self, tag: u8, verdict: Verdict) -> bool
+    /// Does what the host says of the slot's own disk. False where there is nothing to do: nothing has changed then.
+    pub(crate) fn tell(&mut self, said: HostEvent) -> bool
         requires held { HoldsFlights self.old }
-        ensures lands { OnTrue result ((image : List ℕ) →
-            LandsTag tag verdict (state_of image self.old) (state_of image self.new)) }
-        ensures idle { OnFalse result (get_or (tags_in self.old.host) tag None ≡ None) }
+        ensures found { result ≡ (is_some self.old.host && has_effect said (as_hosted (own_in self.old))) }
+        ensures does { OnTrue result ((image : List ℕ) →
+            DoesAsHostSays said (state_of image self.old) (state_of image self.new)) }
         ensures kept { OnFalse result (self.new ≡ self.old) }
         ensures held { HoldsFlights self.new }
-        ensures rest { self.new ≡ record self.old {
-          memory = self.new.memory;
-          block = self.new.block;
-          host = self.new.host;
-        } }
+        ensures place { KeepsPlace self.old self.new }
+        ensures disturbed { self.new.disturbed ≡ self.old.disturbed }
     {
-        let Some(disk) = &mut self.host else {
-            return false;
-        };
-        let done = disk.land(&mut self.memory, &mut self.block, tag, verdict);
+        let (memory, room) = (&mut self.memory, &mut self.chain);
+        let done = self.disk.tell(said, memory, &mut self.block, room);
         if done {
-            self.counters.completed(verdict);
+            self.counters.told(said);
         }
         done
-    }
-
-    /// Gives up what is in flight, and asks for a reset. Nothing is done where the disk is of the image.
-    pub(crate) fn give_up(&mut self)
-        ensures dropped { IsSome self.old.host → (image : List ℕ) →
-            state_of image self.new ≡ dropped (state_of image self.old) }
-        ensures kept { self.old.host ≡ None → self.new ≡ self.old }
-        ensures held { HoldsFlights self.new }
-        ensures rest { self.new ≡ record self.old {
-          block = self.new.block;
-          host = self.new.host;
-        } }
-    {
-        if let Some(disk) = &mut self.host {
-            disk.give_up(&mut self.block);
-        }
     }
 }

@@ -64,13 +64,13 @@ impl<A: Allocator> Slot<A> {
             base: self.memory.base(),
             len: self.memory.len(),
             sectors: self.device().extent.count,
-            read_only: self.block_device.read_only,
-            identity: self.block_device.identity,
+            read_only: self.disk.of_image().read_only,
+            identity: self.disk.of_image().identity,
             block: self.block.saved(),
             console: self.console.saved(),
             cols,
             rows,
-            on_hold: self.on_hold,
+            on_hold: self.is_on_hold(),
             devices: self.devices.saved(),
         }
     }
@@ -151,7 +151,7 @@ impl<A: Allocator> Slot<A> {
         self.block = block.in_place_of(&self.block);
         self.console = console.in_place_of(&self.console);
         self.console_device.restore(pending, saved.cols, saved.rows);
-        self.on_hold = saved.on_hold;
+        self.disk.set_on_hold(saved.on_hold);
         Ok(())
     }
 
@@ -177,10 +177,10 @@ impl<A: Allocator> Slot<A> {
         saved.base == self.memory.base()
             && saved.len == self.memory.len()
             && saved.sectors == self.device().extent.count
-            && saved.read_only == self.block_device.read_only
-            && saved.identity == self.block_device.identity
+            && saved.read_only == self.disk.of_image().read_only
+            && saved.identity == self.disk.of_image().identity
             && saved.block.negotiation.offered == self.block.negotiation().offered().bits()
             && saved.console.negotiation.offered == self.console.negotiation().offered().bits()
-            && (!saved.on_hold || self.host.is_some())
+            && (!saved.on_hold || self.is_hosted())
     }
 }

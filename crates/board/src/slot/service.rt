@@ -21,7 +21,7 @@ ghost use Rattle.board.specs.World.{HasBytesToPutOut};
 
 use crate::pause::{Pause, Service};
 use crate::slot::{Answer, Slot};
-use block_device::Piece;
+use block_device::{Extent, Piece};
 use chain::{Budget, Progress};
 use console_device::{NoMemory, Outlet};
 use mmio_window::Stage;
@@ -94,7 +94,8 @@ impl<A: Allocator + Copy> Slot<A> {
         let Service::Further { device, .. } = pause.service else {
             unreachable!()
         };
-        let base = self.block_device.extent.start + self.block_device.extent.count;
+        let Extent { start, count } = self.disk.of_image().extent;
+        let base = start + count;
         let (memory, room) = (&mut self.memory, &mut self.chain);
         let Piece { progress, failed } = self
             .devices
@@ -127,7 +128,8 @@ impl<A: Allocator + Copy> Slot<A> {
         ensures touches { TouchesExtent I.moment I.may_leave I.left_since self.old.extent cache.old cache.new }
     {
         let (memory, window) = (&mut self.memory, &mut self.block);
-        self.block_device
+        self.disk
+            .of_image()
             .serve_piece(memory, window, cache, stage, budget, &mut self.chain)
     }
 

@@ -1,25 +1,21 @@
-use Rattle.std.proofs.Common.{Some, ap, refl, sym, ◌∙◌}
+use Rattle.std.proofs.Common.{ap}
+use Rattle.hosted_disk.specs.Disk.{LooksAtQueue}
+use Rattle.board.specs.Backing.{OwnDisk}
 use Rattle.board.specs.Slot.{BoardSlot}
-use Rattle.std.specs.Option.{option_map}
-use Rattle.board.specs.Hosting.{device_at}
+use Rattle.board.proofs.HostedWindows.{does_to_own, look_keeps, viewed}
 use Rattle.board.proofs.Belonging.{block_changed}
-use Rattle.hosted_disk.proofs.Windows.{looked_keeps}
-use Rattle.board.proofs.HostedWindows.{looked, viewed}
 use Rattle.board.proofs.slot.Slot.look.Goals as goal
 
-pub invariant_of-self-2 : goal.invariant_of-self-2
-invariant_of-self-2 g c =
-    block_changed _ _ _ _ _ _ _ c.self.invariant (looked_keeps _ _ _ c.look.ensures.looks)
-    c.look.ensures.sound c.look.ensures.range
+pub invariant_of-self : goal.invariant_of-self
+invariant_of-self g c =
+    let looked = c.look in
+    rw (ap (λ (own : OwnDisk). own.read_only) c.look.ensures.rest)
+    (block_changed _ _ _ _ _ _ _ c.self.invariant
+    (look_keeps _ _ _ _ _ _ looked.ensures.looks looked.ensures.kept) looked.ensures.sound looked.ensures.range)
 
 pub returns-clause-looks : goal.returns-clause-looks
 returns-clause-looks g c = λ some image.
     let slot : BoardSlot = viewed c.self.view_is in
     rw (← c.self.view_is)
-    (looked image slot
-    (record slot { memory = c.look.new.memory; block = c.look.new.window; host = Some c.look.new.self })
-    c.deref_mut.result.now c.look.new.self c.device-device.result c.if-self.false
-    (ap (λ o. option_map (λ disk. disk.value) o) c.in-Some.is ∙ ap Some (sym c.deref_mut.ensures.value))
-    (c.device-device.ensures ∙ ap device_at (sym c.self.view_is))
-    c.look.ensures.sectors
-    c.look.ensures.looks refl)
+    (does_to_own LooksAtQueue image slot c.look.new.memory c.look.new.window c.look.new.self
+    (rw (← c.self.view_is) at some) (c.look.ensures.looks (rw (← c.self.view_is) at some)))

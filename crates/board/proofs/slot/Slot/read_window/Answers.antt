@@ -12,11 +12,11 @@ use Rattle.board.proofs.slot.Slot.read_window.Goals as goal
 pub returns-in-Block : goal.returns-in-Block
 returns-in-Block g c = λ bytes filled.
     let slot = c.args.self.now in
-    let shown : c.read.result ≡ read_value c.args.offset c.args.width (config_of c.device.result.extent.count)
+    let shown : c.read.result ≡ read_value c.args.offset c.args.width (config_of c.device.result.now.extent.count)
     c.self.inside.block =
     c.read.ensures ∙ ap (λ config. read_value c.args.offset c.args.width config c.self.inside.block)
     c.config.ensures in
-    let count : c.device.result.extent.count ≡ sectors_by slot.host (sectors_of (state_of bytes slot).extent) =
+    let count : c.device.result.now.extent.count ≡ sectors_by slot.host (sectors_of (state_of bytes slot).extent) =
     ap (λ (d : BlockDevice). d.extent.count) c.device.ensures ∙ device_count slot.host slot.extent
     ∙ ap (λ n. sectors_by slot.host n) (sym filled) in
     rw c.in-Block.is

@@ -1,0 +1,162 @@
+//! A slot's own disk: sectors of the image, or a disk that the host serves.
+
+ghost use Rattle.std.specs.Prelude.{◌≡◌, ◌&&◌, true, false, None, IfOk, IsSome, is_some};
+ghost use Rattle.std.specs.Bool.{OnTrue, OnFalse};
+ghost use Rattle.std.specs.Option.{option_map};
+ghost use Rattle.guest_memory.specs.Memory.{SameRange};
+ghost use Rattle.mmio_window.specs.Soundness.{IsSound};
+ghost use Rattle.hosted_disk.specs.Disk.{LooksAtQueue};
+ghost use Rattle.hosted_disk.specs.Told.{DoesAsTold, has_effect};
+ghost use Rattle.board.specs.Backing.{DoesHosted, HoldsOwn, as_hosted, image_device, own_device};
+ghost use Rattle.board.specs.Fault.{HasRoom};
+ghost use Rattle.board.specs.Slot.{opened_disk};
+
+use crate::check::own_extent;
+use crate::spec::{Backing, SlotSpec};
+use block_device::{BlockDevice, HostEvent, REQUESTQ};
+use chain::Chain;
+use guest_memory::GuestMemory;
+use hosted_disk::HostedDisk;
+use mmio_window::Window;
+use std::alloc::{AllocError, Allocator, Global};
+use std::marker::Model;
+
+/// The disk.
+#[derive(Drop)]
+pub(crate) struct OwnDisk<A: Allocator = Global> {
+    // Its extent is what the disk has of the image: nothing where the host serves it.
+    device: BlockDevice,
+    // The disk that the host serves, in place of one of the image.
+    host: Option<Box<HostedDisk<A>, A>>,
+}
+
+impl<A: Allocator> Model for OwnDisk<A> {
+    ghost use Rattle.std.specs.Option.{option_map};
+    ghost use Rattle.board.specs.Backing.{IsServedAs, OwnDisk, holds_of, host_disk_of};
+
+    ghost Value = { OwnDisk };
+
+    ghost view = { λ d. record {
+      extent = d.device.extent;
+      host = option_map (λ disk. host_disk_of disk.value) d.host;
+      on_hold = holds_of (option_map (λ disk. disk.value) d.host);
+      read_only = d.device.read_only;
+      identity = d.device.identity;
+    } };
+
+    ghost invariant = { λ d. IsServedAs d.device (option_map (λ disk. disk.value) d.host) };
+}
+
+impl<A: Allocator + Copy> OwnDisk<A> {
+    /// Opens the disk of a slot that is to be so.
+    pub(crate) fn open(alloc: A, spec: &SlotSpec) -> Result<OwnDisk<A>, AllocError>
+        requires { HasRoom spec.now }
+        ensures { IfOk result (λ disk. disk ≡ opened_disk spec.now) }
+    {
+        let device = BlockDevice::new(own_extent(spec), spec.read_only, spec.identity);
+        let Backing::Host { depth } = spec.backing else {
+            return Ok(OwnDisk { device, host: None });
+        };
+        let disk = HostedDisk::new(
+            alloc,
+            spec.extent.count,
+            spec.read_only,
+            spec.identity,
+            depth,
+        )?;
+        let host = Some(Box::new(alloc, disk)?);
+        Ok(OwnDisk { device, host })
+    }
+}
+
+impl<A: Allocator> OwnDisk<A> {
+    /// The block device of the disk's sectors of the image: it has none where the host serves the disk.
+    #[inline(always)]
+    pub(crate) fn of_image(&self) -> &BlockDevice
+        ensures { result.now ≡ image_device self.now }
+    {
+        &self.device
+    }
+
+    /// The block device as its driver knows it.
+    pub(crate) fn device(&self) -> &BlockDevice
+        ensures { result.now ≡ own_device self.now }
+    {
+        match &self.host {
+            Some(disk) => disk.device(),
+            None => &self.device,
+        }
+    }
+
+    /// The disk that the host serves, if it does.
+    #[inline(always)]
+    pub(crate) fn host(&self) -> Option<&HostedDisk<A>>
+        ensures value { option_map (λ disk. disk.now) result ≡ option_map (λ host. as_hosted self.now) self.now.host }
+        ensures on_hold { result ≡ None → self.now.on_hold ≡ false }
+    {
+        match &self.host {
+            Some(disk) => Some(&**disk),
+            None => None,
+        }
+    }
+
+    /// Has no further chain of a disk that the host serves taken, or has them taken again. The queue isn't looked at.
+    pub(crate) fn set_on_hold(&mut self, on_hold: bool)
+        requires { on_hold ≡ true → IsSome self.old.host }
+        ensures { self.new ≡ record self.old { on_hold = on_hold } }
+    {
+        if let Some(disk) = &mut self.host {
+            disk.set_on_hold(on_hold);
+        }
+    }
+
+    /// The device of a disk that the host serves looks at its queue, unless that is on hold. `room` is for the buffers of each
+    /// chain. Nothing is done where the disk is of the image.
+    pub(crate) fn look<M: Allocator>(
+        &mut self,
+        memory: &mut GuestMemory<M>,
+        window: &mut Window,
+        room: &mut Chain,
+    )
+        requires sound { IsSound memory.old window.old }
+        requires held { HoldsOwn memory.old window.old self.old }
+        ensures looks { IsSome self.old.host →
+            DoesHosted LooksAtQueue memory.old memory.new window.old window.new self.old self.new }
+        ensures kept { self.old.host ≡ None → (memory.new ≡ memory.old) × ((window.new ≡ window.old) × (self.new ≡ self.old)) }
+        ensures rest { self.new ≡ record self.old { host = self.new.host } }
+        ensures range { SameRange memory.old memory.new }
+        ensures sound { IsSound memory.new window.new }
+        ensures held { HoldsOwn memory.new window.new self.new }
+    {
+        let Some(disk) = &mut self.host else {
+            return;
+        };
+        disk.serve(REQUESTQ, memory, window, room);
+    }
+
+    /// Does what the host says of the disk, and looks at its queue where further chains may be taken. False where there is nothing
+    /// to do, and where the disk is of the image: nothing has changed then.
+    pub(crate) fn tell<M: Allocator>(
+        &mut self,
+        said: HostEvent,
+        memory: &mut GuestMemory<M>,
+        window: &mut Window,
+        room: &mut Chain,
+    ) -> bool
+        requires sound { IsSound memory.old window.old }
+        requires held { HoldsOwn memory.old window.old self.old }
+        ensures found { result ≡ (is_some self.old.host && has_effect said (as_hosted self.old)) }
+        ensures does { OnTrue result
+            (DoesHosted (DoesAsTold said) memory.old memory.new window.old window.new self.old self.new) }
+        ensures kept { OnFalse result ((memory.new ≡ memory.old) × ((window.new ≡ window.old) × (self.new ≡ self.old))) }
+        ensures rest { self.new ≡ record self.old { host = self.new.host; on_hold = self.new.on_hold } }
+        ensures range { SameRange memory.old memory.new }
+        ensures sound { IsSound memory.new window.new }
+        ensures held { HoldsOwn memory.new window.new self.new }
+    {
+        let Some(disk) = &mut self.host else {
+            return false;
+        };
+        disk.tell(said, memory, window, room)
+    }
+}
