@@ -173,15 +173,15 @@ static void check_image(void)
 /* ---- over disks that the host serves */
 
 /* So many reads of a sector by one notification, each of 16 bytes out, 512 and a status in, or none of these if it fails. */
-static void read_sectors(uint8_t slot, uint16_t count, bool failed)
+static void read_sectors(uint8_t slot, uint8_t window, uint16_t count, bool failed)
 {
     static const uint8_t header[16] = { IN };
-    bring_up(slot, KALYUBOS_BLOCK, 0);
+    bring_up(slot, window, 0);
     store(slot, 0x400, header, sizeof header);
     offer(slot, SECTOR, sizeof SECTOR, &ALL_FIRST, count);
-    need(set(slot, KALYUBOS_BLOCK, NOTIFY, 0) == KALYUBOS_IO, "a read", slot);
+    need(set(slot, window, NOTIFY, 0) == KALYUBOS_IO, "a read", slot);
     for (uint16_t i = 1; i <= count; i++)
-        need(kalyubos_completed(&board, slot, KALYUBOS_BLOCK, 0, failed, &pending) == (i < count ? KALYUBOS_IO : KALYUBOS_DONE),
+        need(kalyubos_completed(&board, slot, window, 0, failed, &pending) == (i < count ? KALYUBOS_IO : KALYUBOS_DONE),
              "a completion", i);
 }
 
@@ -195,9 +195,9 @@ static void check_hosted(void)
     slots[0].hosted = slots[1].hosted = true;
     make(&board, kalyubos_config(slots, 2));
     size_t len = saved(0, before);
-    read_sectors(0, 3, true);
+    read_sectors(0, KALYUBOS_BLOCK, 3, true);
     is_counted(1, NOTHING, "the second guest did nothing");
-    read_sectors(1, 2, false);
+    read_sectors(1, KALYUBOS_BLOCK, 2, false);
     has_two();
     for (uint8_t slot = 0; slot < 2; slot++)
         is_counted(slot, both[slot], "a hosted guest's counters");
@@ -208,10 +208,26 @@ static void check_hosted(void)
     end(&board);
 }
 
+/* Three reads of a further disk fail, as those of the guest's own did, and then two of another are done. */
+static void check_further(void)
+{
+    const struct kalyubos_device disk = { .kind = KALYUBOS_DISK, .sectors = 1, .depth = 1 };
+    slots[0].devices[0] = slots[0].devices[1] = disk;
+    make(&board, kalyubos_config(slots, 1));
+    read_sectors(0, KALYUBOS_DEVICE, 3, true);
+    is_counted(0, (struct kalyubos_counters){ .notifies = 1, .chains = 3, .bytes_out = 3 * 16, .refusals = 3 },
+               "a further disk's failures");
+    read_sectors(0, KALYUBOS_DEVICE + 1, 2, false);
+    is_counted(0, (struct kalyubos_counters){ .notifies = 2, .chains = 5, .bytes_in = 2 * 513, .bytes_out = 5 * 16, .refusals = 3 },
+               "another further disk's reads");
+    end(&board);
+}
+
 int main(void)
 {
     check_image();
     check_hosted();
+    check_further();
     puts("counted: what two guests' devices did, on boards of both kinds, before and after a restore");
     return 0;
 }

@@ -200,7 +200,10 @@ impl<A: Allocator + Copy> Slot<A> {
     {
         let (memory, room) = (&mut self.memory, &mut self.chain);
         match self.devices.tell(device, said, memory, room) {
-            Some(true) => Reply::Done,
+            Some(true) => {
+                self.counters.told(said);
+                Reply::Done
+            }
             Some(false) => Reply::Idle,
             None => Reply::BadDevice,
         }
