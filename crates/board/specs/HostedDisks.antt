@@ -14,21 +14,18 @@ use Rattle.block_device.specs.Flights.{HostedQueue, InFlight}
 use Rattle.hosted_disk.specs.Disk.{HostedDisk, queue_of}
 use Rattle.hosted_disk.specs.Told.{DoesAsTold}
 use Rattle.device_list.specs.Device.{DeviceState}
-use Rattle.device_list.specs.List.{changed_at}
+use Rattle.device_list.specs.List.{changed_at, disk_at}
 use Rattle.device_list.specs.Model.{Block, ModelState, disk_of}
 use Rattle.board.specs.declared.event.DeviceEvent.{DeviceEvent}
 use Rattle.board.specs.declared.event.DeviceEvent.TheVariants as device
 use Rattle.board.specs.declared.event.EventKind.{EventKind}
 use Rattle.board.specs.declared.event.EventKind.TheVariants.{Device, Host}
-use Rattle.board.specs.Backing.{tags_in}
-use Rattle.board.specs.Hosting.{notifies_block, own_disk, tag_of, told_in, waits_now, with_own}
-use Rattle.board.specs.Slot.{SlotState}
+use Rattle.board.specs.Backing.{as_hosted, tags_in}
+use Rattle.board.specs.Hosting.{notifies_block, own_disk, own_in, tag_of, told_in, waits_now, with_own}
+use Rattle.board.specs.Slot.{BoardSlot, SlotState}
+pub use Rattle.board.specs.declared.slot_disk.SlotDisk.{SlotDisk}
+pub use Rattle.board.specs.declared.slot_disk.SlotDisk.TheVariants.{Own, Further}
 use Rattle.board.specs.Waiting.{waits_beside}
-
--- which disk of a slot it is: the slot's own, or the further device of this number
-pub data SlotDisk : Type 0 where
-  Own : SlotDisk
-  Further : ℕ → SlotDisk
 
 -- a disk that the host serves, and its window
 pub record DiskUnit : Type 0 where
@@ -47,6 +44,11 @@ unit_of d = option_map (λ disk. record { window = d.window; disk = disk }) (dis
 abbrev pub unit_at : SlotDisk → SlotState → Option DiskUnit
 unit_at Own state = option_map (λ host. own_unit state) state.host
 unit_at (Further n) state = option_and_then unit_of (slice_get state.devices n)
+
+-- and of a slot as the board keeps it
+abbrev pub disk_in : SlotDisk → BoardSlot → Option HostedDisk
+disk_in Own slot = option_map (λ host. as_hosted (own_in slot)) slot.host
+disk_in (Further n) slot = disk_at n slot.devices
 
 -- what is in flight of it, by tags
 abbrev pub in_flight_of : SlotDisk → SlotState → List (Option InFlight)

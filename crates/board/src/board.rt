@@ -11,7 +11,6 @@ ghost use Rattle.board.specs.Within.{DecidesSlot, TakesWithin};
 
 mod access;
 mod devices;
-mod hosting;
 mod make;
 mod pieces;
 mod saved;

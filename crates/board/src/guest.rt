@@ -274,13 +274,6 @@ impl<A: Allocator> Guest<A> {
         }
     }
 
-    /// Whether no further chain of the guest's disk is taken.
-    pub(crate) fn is_on_hold(&self) -> bool
-        ensures { result ≡ self.now.on_hold }
-    {
-        self.slot.is_on_hold()
-    }
-
     // Whether an event waits for what is in flight.
     fn holds_up(&self, what: &EventKind<A>) -> bool
         ensures { result ≡ waits_now what.now self.now.host }

@@ -8,7 +8,7 @@
 //! `board` is the board. `spec` says what it is made of, `check` and `fault` why one is refused;
 //! `event` is what comes in, `in_place` an event whose bytes the caller has, and `reply` what goes out, and `pause` what a turn of a slot is asked and comes to,
 //! whose service may pause, and `task` what a write leaves to be done. `slot` serves one guest, its memory, its two windows
-//! and its two devices, and knows of no other; `own_disk` is who has its disk; `counters` is what it counts of them,
+//! and its two devices, and knows of no other; `own_disk` is who has its disk, and `slot_disk` says which of its disks it is; `counters` is what it counts of them,
 //! `opening` opens the slots of a board, and `lent` makes a slot's memory of a host's bytes. `laws` has what holds of every
 //! run by itself.
 #![tactic(auto)]
@@ -30,6 +30,7 @@ mod refusal;
 mod reply;
 mod saved;
 mod slot;
+mod slot_disk;
 mod spec;
 mod task;
 
@@ -62,6 +63,7 @@ pub use refusal::PlugRefusal;
 pub use reply::{Handled, Record, Reply, RunStop};
 pub use saved::{RestoreFault, RestoreRefusal, SaveRefusal};
 pub use sector_cache::{CacheFault, Image, ImageError, ImageFault, MemoryImage, Refused};
+pub use slot_disk::SlotDisk;
 pub use snapshot::{ShortBuffer, SnapshotFault};
 pub use spec::{Backing, SlotSpec};
 pub use task::Task;

@@ -6,13 +6,13 @@ use Rattle.std.specs.Option.{option_map, option_map_or}
 use Rattle.board.specs.declared.event.DeviceEvent.{DeviceEvent}
 use Rattle.board.specs.declared.event.SlotWindow.{SlotWindow}
 use Rattle.board.specs.declared.event.SlotWindow.TheVariants.{Block, Console}
+use Rattle.board.specs.declared.slot_disk.SlotDisk.{SlotDisk}
+use Rattle.board.specs.declared.slot_disk.SlotDisk.TheVariants.{Own, Further}
 use Rattle.board.specs.Slot.{interrupt_words}
 use Rattle.session.specs.Session.{SessionState, output_of}
 use Rattle.session.specs.declared.told.Waits.{Waits}
 use Rattle.board_ffi.specs.declared.handle.Handle.{Handle}
 use Rattle.board_ffi.specs.declared.pending.Pending.{Pending}
-use Rattle.board_ffi.specs.declared.window.DiskWindow.{DiskWindow}
-use Rattle.board_ffi.specs.declared.window.DiskWindow.TheVariants.{Own, Further}
 use Rattle.board_ffi.specs.Codes.{code_at}
 use Rattle.board_ffi.specs.Handle.{Held}
 pub use Rattle.board.specs.declared.event.EventKind.{EventKind}
@@ -60,12 +60,12 @@ AtDevice number before after code step =
     (λ device. Calls before.session after.session code (step device))
 
 -- whose disk a window's number may name: the slot's own, or that of a further device
-abbrev pub disk_window : ℕ → Option DiskWindow
+abbrev pub disk_window : ℕ → Option SlotDisk
 disk_window number = if number == 0 then Some Own else option_map Further (device_at number)
 
 -- A call for the disk of a window does this, where the window may be a disk's. Of the console's it answers 6, or 3 where there
 -- is no such slot, and changes nothing.
-abbrev pub AtDisk : ℕ → ℕ → ℕ → (DiskWindow → SessionState → SessionState → Type 0) → SessionState → SessionState
+abbrev pub AtDisk : ℕ → ℕ → ℕ → (SlotDisk → SessionState → SessionState → Type 0) → SessionState → SessionState
     → Type 0
 AtDisk number slot code step old new =
     MatchOption (disk_window number) ((code ≡ code_at slot (length old.slots) 6) × (new ≡ old))

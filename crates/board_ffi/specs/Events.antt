@@ -4,7 +4,6 @@ use Rattle.std.specs.List.{slice_get}
 use Rattle.std.specs.Global.{Global}
 use Rattle.guest_memory.specs.Memory.{Inside, Memory}
 use Rattle.guest_memory.specs.Pages.{bits_of}
-use Rattle.board.specs.declared.event.DeviceEvent.{DeviceEvent}
 use Rattle.board.specs.declared.event.EventKind.{EventKind}
 use Rattle.block_device.specs.declared.operation.HostEvent.{HostEvent}
 use Rattle.block_device.specs.declared.operation.HostEvent.TheVariants as host
@@ -14,6 +13,9 @@ use Rattle.board.specs.declared.reply.Reply.TheVariants as reply
 use Rattle.board.specs.declared.saved.RestoreFault.{RestoreFault}
 use Rattle.board.specs.declared.saved.RestoreRefusal.{RestoreRefusal}
 use Rattle.board.specs.declared.saved.RestoreRefusal.TheVariants.{Fault}
+use Rattle.board.specs.declared.slot_disk.SlotDisk.{SlotDisk}
+use Rattle.board.specs.declared.slot_disk.SlotDisk.TheVariants.{Own, Further}
+use Rattle.board.specs.HostedDisks.{saying}
 use Rattle.board.specs.Lending.{bits_in}
 use Rattle.board.specs.Saved.{IsAs, IsCauseOf, IsLike, IsSnapshotOf}
 use Rattle.board.specs.Slot.{BoardSlot, is_at_work}
@@ -21,16 +23,13 @@ use Rattle.session.specs.Course.{IsTaken}
 use Rattle.session.specs.declared.progress.Progress.{Progress}
 use Rattle.session.specs.declared.refusal.Refusal.{Refusal}
 use Rattle.session.specs.declared.response.Response.{Response}
-use Rattle.session.specs.Disks.{DiskHasAsked, DiskHasNothing}
-use Rattle.session.specs.Operations.{AskedBy, HasAsked, HasFlight, HasNothing}
+use Rattle.session.specs.Operations.{AskedBy, HasAsked, HasFlight, HasNothing, in_flight_at}
 use Rattle.session.specs.Pausing.{IsCall, IsWhole, WentOn, taken_at}
 use Rattle.session.specs.Session.{IsIdle, SessionState, output_of}
 use Rattle.session.specs.Pacing.{Handle, paused_at}
 use Rattle.session.specs.Restoring.{restore_response}
-use Rattle.board_ffi.specs.declared.window.DiskWindow.{DiskWindow}
-use Rattle.board_ffi.specs.declared.window.DiskWindow.TheVariants.{Own, Further}
 use Rattle.board_ffi.specs.Codes.{StandsFor, image_code, is_response, restore_code, went_on_code}
-use Rattle.board_ffi.specs.Disk.{flight_of, in_flight_of, rest_code}
+use Rattle.board_ffi.specs.Disk.{flight_of, rest_code}
 
 -- The board takes a call for this event of a slot, and its response is one that the number stands for:
 -- where the call is done it is this reply, and a step of the board.
@@ -59,42 +58,32 @@ pub record MayAsk (slot : ℕ) (what : EventKind Global) (Asks : Type 0) (code :
 
 -- operations began with a write of a window: of the slot's own disk, or of the further one whose window it is
 abbrev pub HasAskedBehind : ℕ → Option ℕ → SessionState → SessionState → Type 0
-HasAskedBehind slot None old new = HasAsked slot old new
-HasAskedBehind slot (Some n) old new = DiskHasAsked slot n old new
+HasAskedBehind slot None old new = HasAsked slot Own old new
+HasAskedBehind slot (Some n) old new = HasAsked slot (Further n) old new
 
 -- a guest's write, of the window of the further device of this number if it is one's: its disk is asked for something where
 -- operations began with it
 abbrev pub Writes : ℕ → Option ℕ → EventKind Global → ℕ → SessionState → SessionState → Type 0
 Writes slot device what code old new = MayAsk slot what (HasAskedBehind slot device old new) code old new
 
--- the event of what the host says of a disk
-abbrev pub said_event : DiskWindow → HostEvent → EventKind Global
-said_event Own said = EventKind.Host said
-said_event (Further n) said = EventKind.Device n (DeviceEvent.Host said)
-
--- operations began with it
-abbrev pub HasAskedBy : HostEvent → ℕ → DiskWindow → SessionState → SessionState → Type 0
+-- operations began with what the host says of a disk
+abbrev pub HasAskedBy : HostEvent → ℕ → SlotDisk → SessionState → SessionState → Type 0
 HasAskedBy said slot disk old new =
-    AskedBy said (in_flight_of slot disk old.slots) (in_flight_of slot disk new.slots)
-
--- the disk is there, and there is nothing to do for it
-abbrev pub HasNothingFor : HostEvent → ℕ → DiskWindow → List BoardSlot → Type 0
-HasNothingFor said slot Own slots = HasNothing slot said slots
-HasNothingFor said slot (Further n) slots = DiskHasNothing slot n said slots
+    AskedBy said (in_flight_at slot disk old.slots) (in_flight_at slot disk new.slots)
 
 -- What is in flight of a slot's disk with this tag is completed. Where nothing is, nothing changes.
-pub record Completes (slot tag : ℕ) (failed : Bool) (code : ℕ) (disk : DiskWindow) (old new : SessionState) : Type 0 where
+pub record Completes (slot tag : ℕ) (failed : Bool) (code : ℕ) (disk : SlotDisk) (old new : SessionState) : Type 0 where
   pub completed :
       IsSome (flight_of slot disk tag old.slots) →
-      MayAsk slot (said_event disk (host.Complete tag (verdict_of failed)))
+      MayAsk slot (saying disk (host.Complete tag (verdict_of failed)))
       (HasAskedBy (host.Complete tag (verdict_of failed)) slot disk old new) code old new
   pub code_is : flight_of slot disk tag old.slots ≡ None → code ≡ rest_code slot disk old.slots
   pub kept : flight_of slot disk tag old.slots ≡ None → new ≡ old
 
 -- The board takes a call for what the host says of a slot's disk: it is idle exactly where there is nothing to do.
-pub record Says (slot : ℕ) (said : HostEvent) (code : ℕ) (disk : DiskWindow) (old new : SessionState) : Type 0 where
-  pub taken : MayAsk slot (said_event disk said) (HasAskedBy said slot disk old new) code old new
-  pub idle : (code ≡ 21) ↔ (IsIdle slot old × HasNothingFor said slot disk old.slots)
+pub record Says (slot : ℕ) (said : HostEvent) (code : ℕ) (disk : SlotDisk) (old new : SessionState) : Type 0 where
+  pub taken : MayAsk slot (saying disk said) (HasAskedBy said slot disk old new) code old new
+  pub idle : (code ≡ 21) ↔ (IsIdle slot old × HasNothing slot disk said old.slots)
 
 -- The service of a slot goes on, and this is told of it.
 pub record GoesOn (slot code : ℕ) (old new : SessionState) : Type 0 where

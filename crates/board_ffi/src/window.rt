@@ -3,29 +3,20 @@
 ghost use Rattle.std.specs.Prelude.{◌≡◌, ◌-◌, None, Some};
 ghost use Rattle.board_ffi.specs.Calls.{device_at, disk_window, window_of};
 
-use session::SlotWindow;
+use session::{SlotDisk, SlotWindow};
 
 /// The number of the first further device's window.
 const FIRST: u8 = 2;
 
-/// Whose disk a window is for.
-#[derive(Clone, Copy, Debug, PartialEq, Eq)]
-pub enum DiskWindow {
-    /// The slot's own.
-    Own,
-    /// That of its further device of this number, if that is one.
-    Further(u8),
-}
-
 /// Whose disk a window is for, where it isn't the console's.
-pub(crate) fn disk_numbered(number: u8) -> Option<DiskWindow>
+pub(crate) fn disk_numbered(number: u8) -> Option<SlotDisk>
     ensures { result ≡ disk_window number }
 {
     if number == 0 {
-        return Some(DiskWindow::Own);
+        return Some(SlotDisk::Own);
     }
     let device = device_numbered(number)?;
-    Some(DiskWindow::Further(device))
+    Some(SlotDisk::Further(device))
 }
 
 /// The disk's window or the console's, if it is one of these.

@@ -10,3 +10,4 @@ pub mod Telling
 pub mod Answering
 pub mod Lines
 pub mod Begun
+pub mod Disks

@@ -10,6 +10,8 @@ use Rattle.board.specs.declared.event.EventKind.TheVariants.{Device}
 use Rattle.board.specs.declared.reply.Reply.{Reply}
 use Rattle.block_device.specs.Flights.{InFlight}
 use Rattle.device_list.specs.List.{disk_at}
+use Rattle.board.specs.declared.slot_disk.SlotDisk.{SlotDisk}
+use Rattle.board.specs.declared.slot_disk.SlotDisk.TheVariants.{Own, Further}
 use Rattle.board.specs.Backing.{tags_in}
 use Rattle.board.specs.Hosting.{tag_in}
 use Rattle.board.specs.Image.{Tells}
@@ -37,7 +39,12 @@ abbrev pub words_of : Option BoardSlot → ℕ × ℕ
 words_of None = (0, 0)
 words_of (Some slot) = interrupt_words slot
 
--- what is in flight of a slot's own disk by its tags, or of the further one of a number, where the slot is there
+-- a slot's own disk, or the further one of a number
+abbrev pub disk_named : Option ℕ → SlotDisk
+disk_named None = Own
+disk_named (Some n) = Further n
+
+-- what is in flight of it by its tags, where the slot is there
 abbrev pub tags_of : Option ℕ → Option BoardSlot → List (Option InFlight)
 tags_of whose None = []
 tags_of None (Some slot) = tags_in slot.host

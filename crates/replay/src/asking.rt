@@ -10,12 +10,12 @@ ghost use Rattle.block_device.specs.Flights.{InFlight};
 ghost use Rattle.block_device.specs.Tags.{taken_bits};
 ghost use Rattle.board.specs.Hosting.{tag_in};
 ghost use Rattle.replay.specs.Asking.{PutsBegun, TakesOne, begun_text, further_from};
-ghost use Rattle.replay.specs.Running.{further_tags, tags_of};
+ghost use Rattle.replay.specs.Running.{disk_named, further_tags, tags_of};
 ghost use Rattle.replay.specs.Telling.{begun_from, completed_by, completed_in, device_in, staying, told_by_tag};
 ghost use Rattle.trace.specs.Asked.{asked_field};
 ghost use Rattle.trace.specs.Sends.{Sends, waiting};
 
-use board::{Board, DeviceEvent, Event, EventKind, HostEvent};
+use board::{Board, DeviceEvent, Event, EventKind, HostEvent, SlotDisk};
 use sector_cache::Image;
 use std::alloc::Allocator;
 use std::io::Write;
@@ -77,15 +77,20 @@ fn staying_by<A: Allocator>(what: &DeviceEvent<A>, tags: u64) -> u64
 fn taken<I: Image, A: Allocator>(board: &Board<I, A>, slot: u8, device: Option<u8>) -> u64
     ensures { result ≡ taken_bits (tags_of device (slice_get board.now.slots slot)) }
 {
+    match board.disk(slot, disk_named(device)) {
+        Some(disk) => disk.taken(),
+        None => 0,
+    }
+}
+
+// The slot's own disk, or the further one of a number.
+#[inline(always)]
+fn disk_named(device: Option<u8>) -> SlotDisk
+    ensures { result ≡ disk_named device }
+{
     match device {
-        None => match board.in_flight(slot) {
-            Some(taken) => taken,
-            None => 0,
-        },
-        Some(number) => match board.disk(slot, number) {
-            Some(disk) => disk.taken(),
-            None => 0,
-        },
+        None => SlotDisk::Own,
+        Some(number) => SlotDisk::Further(number),
     }
 }
 
@@ -198,50 +203,7 @@ fn put_tag<W: Write, I: Image, A: Allocator>(
         (begun_text is_first (told_by_tag device tag (get_or (tags_of device (slice_get board.now.slots slot)) tag None))) (waiting text.new) }
     ensures none { result ≡ (if is_none (get_or (tags_of device (slice_get board.now.slots slot)) tag None) then is_first else false) }
 {
-    match device {
-        None => put_own(text, writer, board, slot, tag, is_first),
-        Some(number) => put_further(text, writer, board, slot, number, tag, is_first),
-    }
-}
-
-// Puts that of a slot's own disk.
-fn put_own<W: Write, I: Image, A: Allocator>(
-    text: &mut Buffer<A>,
-    writer: &mut W,
-    board: &Board<I, A>,
-    slot: u8,
-    tag: u8,
-    is_first: bool,
-) -> bool
-    ensures sends { Sends (W.contents writer.old) (W.contents writer.new) (waiting text.old)
-        (begun_text is_first (told_by_tag None tag (get_or (tags_of None (slice_get board.now.slots slot)) tag None))) (waiting text.new) }
-    ensures none { result ≡ (if is_none (get_or (tags_of None (slice_get board.now.slots slot)) tag None) then is_first else false) }
-{
-    let Some(operation) = board.operation(slot, tag) else {
-        return is_first;
-    };
-    let Some(runs) = board.runs(slot, tag) else {
-        return is_first;
-    };
-    put_begun(text, writer, is_first, None, tag, operation, runs);
-    false
-}
-
-// Puts that of a further disk.
-fn put_further<W: Write, I: Image, A: Allocator>(
-    text: &mut Buffer<A>,
-    writer: &mut W,
-    board: &Board<I, A>,
-    slot: u8,
-    number: u8,
-    tag: u8,
-    is_first: bool,
-) -> bool
-    ensures sends { Sends (W.contents writer.old) (W.contents writer.new) (waiting text.old)
-        (begun_text is_first (told_by_tag (Some number) tag (get_or (tags_of (Some number) (slice_get board.now.slots slot)) tag None))) (waiting text.new) }
-    ensures none { result ≡ (if is_none (get_or (tags_of (Some number) (slice_get board.now.slots slot)) tag None) then is_first else false) }
-{
-    let Some(disk) = board.disk(slot, number) else {
+    let Some(disk) = board.disk(slot, disk_named(device)) else {
         return is_first;
     };
     let Some(operation) = disk.operation(tag) else {
@@ -251,7 +213,7 @@ fn put_further<W: Write, I: Image, A: Allocator>(
         text,
         writer,
         is_first,
-        Some(number),
+        device,
         tag,
         operation,
         disk.runs(tag),

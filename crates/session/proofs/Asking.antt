@@ -19,6 +19,7 @@ use Rattle.board.specs.declared.reply.Reply.TheVariants as reply
 use Rattle.block_device.specs.declared.device.BlockDevice.{BlockDevice}
 use Rattle.block_device.specs.Tags.{taken_bits}
 use Rattle.board.specs.Backing.{HostDisk, tags_in}
+use Rattle.board.specs.declared.slot_disk.SlotDisk.TheVariants.{Own}
 use Rattle.board.specs.Image.{Health}
 use Rattle.board.specs.ImageDisks.{image_served}
 use Rattle.board.specs.Pausing as pausing
@@ -152,13 +153,13 @@ taken_said (Some found) = refl
 
 -- where they stay nothing was asked for
 same_asks : (slot : ℕ) (old new : SessionState)
-    → said_at taken_of slot new.slots ≡ said_at taken_of slot old.slots → HasAsked slot old new → ⊥
+    → said_at taken_of slot new.slots ≡ said_at taken_of slot old.slots → HasAsked slot Own old new → ⊥
 same_asks slot old new same asks =
     asks (taken_said (slice_get new.slots slot) ∙ same ∙ sym (taken_said (slice_get old.slots slot)))
 
 pub pausing_asks : {A : Type 0} (old new : SessionState) (slot : ℕ) (what : EventKind A)
     (response : Response A) → IsCall old (Handle (record { slot = slot; what = what })) response new
-    → response ≡ More → HasAsked slot old new → ⊥
+    → response ≡ More → HasAsked slot Own old new → ⊥
 pausing_asks {A} old new slot what response call is asks =
     same_asks slot old new
     (pausing_keeps taken_of old new (record { slot = slot; what = what }) (slice_get old.paused slot)
@@ -188,9 +189,9 @@ never_asks Busy P never = tt
 never_asks response P never = (λ is. absurd (cc (is)), λ p. absurd (never p))
 
 pub going_on_asks : {A : Type 0} (old new : SessionState) (slot : ℕ) (r : Result Progress Refusal)
-    → WentOn A old slot r new → IfOk r (λ came. (came ≡ progress.Asks) ↔ HasAsked slot old new)
+    → WentOn A old slot r new → IfOk r (λ came. (came ≡ progress.Asks) ↔ HasAsked slot Own old new)
 going_on_asks {A} old new slot r h =
-    subst (λ (x : Result Progress Refusal). IfOk x (λ came. (came ≡ progress.Asks) ↔ HasAsked slot old new))
+    subst (λ (x : Result Progress Refusal). IfOk x (λ came. (came ≡ progress.Asks) ↔ HasAsked slot Own old new))
     (sym h.told)
-    (never_asks h.response (HasAsked slot old new) (λ asks. same_asks slot old new
+    (never_asks h.response (HasAsked slot Own old new) (λ asks. same_asks slot old new
     (going_on_keeps taken_of old new slot h.response (slice_get old.paused slot) h.call) asks))

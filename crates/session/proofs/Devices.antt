@@ -26,6 +26,9 @@ use Rattle.board.specs.declared.reply.Reply.TheVariants.{Value, Done, Bytes, Too
 use Rattle.board.specs.declared.reply.Reply.TheVariants as told
 use Rattle.board.specs.Backing.{HostDisk, tags_in}
 use Rattle.board.specs.Devices.{GivesByDevice, MayReplyDevice, TakesMemoryFor, can_plug, device_asks, device_reply, further_service, has_effect_at, received_reply, reply_at, told_reply, waits_for_disk, waits_there}
+use Rattle.board.specs.declared.slot_disk.SlotDisk.{SlotDisk}
+use Rattle.board.specs.declared.slot_disk.SlotDisk.TheVariants.{Further, Own}
+use Rattle.board.specs.HostedDisks.{saying}
 use Rattle.board.specs.Hosting.{OwnGives}
 use Rattle.board.specs.Image.{Health}
 use Rattle.board.specs.ImageDisks.{GivesAtDevice, image_asked, image_served}
@@ -288,7 +291,7 @@ writes_suit n offset width value More suits = tt
 writes_suit n offset width value Busy suits = tt
 writes_suit n offset width value Idle suits = absurd suits
 
-pub words_suit : {A : Type 0} (n : ℕ) (said : HostEvent) (r : Response A) → SuitsCall (Device n (Host said)) r
+words_suit : {A : Type 0} (n : ℕ) (said : HostEvent) (r : Response A) → SuitsCall (Device n (Host said)) r
     → IsServing r
 words_suit n said (Answered Done) suits = tt
 words_suit n said (Answered BadSlot) suits = tt
@@ -299,14 +302,31 @@ words_suit n said More suits = absurd suits
 words_suit n said Busy suits = tt
 words_suit n said Idle suits = absurd suits
 
+-- or of a slot's own
+pub says_suit : {A : Type 0} (disk : SlotDisk) (said : HostEvent) (r : Response A) → SuitsCall (saying disk said) r
+    → IsServing r
+says_suit (Further n) said r suits = words_suit n said r suits
+says_suit Own said (Answered Done) suits = tt
+says_suit Own said (Answered BadSlot) suits = tt
+says_suit Own said (Answered told.Idle) suits = tt
+says_suit Own said (Answered reply) suits = absurd suits
+says_suit Own said More suits = absurd suits
+says_suit Own said Busy suits = tt
+says_suit Own said Idle suits = absurd suits
+
 -- none of these pauses
-pub at_once : {A : Type 0} (n : ℕ) (said : HostEvent) (response : Response A) (r : Result Progress Refusal)
-    → Means served_response r response → SuitsCall (Device n (Host said)) response
+pub never_more : (A : Type 0) (disk : SlotDisk) (word : HostEvent) → SuitsCall (saying {A = A} disk word) More → ⊥
+never_more A Own word never = never
+never_more A (Further n) word never = never
+
+pub at_once : {A : Type 0} (disk : SlotDisk) (said : HostEvent) (response : Response A) (r : Result Progress Refusal)
+    → Means served_response r response → SuitsCall (saying disk said) response
     → IfOk r (λ came. came ≢ progress.More)
-at_once n said response (Ok progress.Done) means suits = λ is. cc (is)
-at_once n said response (Ok progress.Asks) means suits = λ is. cc (is)
-at_once n said response (Ok progress.More) means suits = absurd (rw means at suits)
-at_once n said response (Err why) means suits = tt
+at_once disk said response (Ok progress.Done) means suits = λ is. cc (is)
+at_once disk said response (Ok progress.Asks) means suits = λ is. cc (is)
+at_once {A} disk said response (Ok progress.More) means suits =
+    absurd (never_more A disk said (rw means at suits))
+at_once disk said response (Err why) means suits = tt
 
 pub links_suit : {A : Type 0} (n : ℕ) (up : Bool) (r : Response A) → SuitsCall (Device n (SetLink up)) r
     → IsDoneOrRefusing r

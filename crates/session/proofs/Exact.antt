@@ -1,12 +1,12 @@
 -- When each refusal of a call comes.
 use Rattle.std.proofs.Common.{◌≡◌, ◌⊎◌, ◌↔◌, inl, inr, ℕ, ◌<◌, ◌≤◌, Bool, true, false, List, length, get_or, Option, Some, None, refl, sym, ◌∙◌, ap, subst, arith}
+use Rattle.std.specs.Option.{option_map}
 use Rattle.std.specs.Prelude.{◌&&◌, ◌||◌, is_some, nat_lt, not, if◌then◌else◌, IsErrOf, IsSomeAnd, Result, Ok, Err}
 use Rattle.std.specs.List.{slice_get}
 use Rattle.std.specs.Option.{option_and_then}
 use Rattle.std.proofs.lemmas.Bool.Decides.{nat_tests}
 use Rattle.std.proofs.lemmas.Option.{slice_get_cases, slice_get_within, same_Some}
 use Rattle.guest_memory.specs.Memory.{Inside}
-use Rattle.block_device.specs.declared.operation.Verdict.{Verdict}
 use Rattle.board.specs.declared.event.DeviceEvent.{DeviceEvent}
 use Rattle.board.specs.declared.event.DeviceEvent.TheVariants.{Host as DiskTold}
 use Rattle.board.specs.declared.event.Event.{Event}
@@ -22,10 +22,14 @@ use Rattle.board.specs.declared.reply.Reply.TheVariants as reply
 use Rattle.board.specs.declared.reply.Record.{Record}
 use Rattle.block_device.specs.Flights.{InFlight}
 use Rattle.block_device.specs.Tags.{is_any}
+use Rattle.hosted_disk.specs.Disk.{HostedDisk}
 use Rattle.hosted_disk.specs.Told.{has_effect}
 use Rattle.device_list.specs.List.{disk_at}
 use Rattle.board.specs.Backing.{HostDisk, tags_in}
-use Rattle.board.specs.Devices.{reply_at, waits_for_disk}
+use Rattle.board.specs.Devices.{reply_at, told_reply, waits_for_disk}
+use Rattle.board.specs.declared.slot_disk.SlotDisk.{SlotDisk}
+use Rattle.board.specs.declared.slot_disk.SlotDisk.TheVariants.{Further, Own}
+use Rattle.board.specs.HostedDisks.{saying}
 use Rattle.board.specs.Hosting.{HostGives, HostOrGives, OwnGives, ToldGives, has_part, must_wait, own_disk, told_in, waits_now}
 use Rattle.board.specs.Image.{Health}
 use Rattle.board.specs.Outcome.{Outcome, replies}
@@ -44,10 +48,9 @@ use Rattle.session.specs.declared.refusal.Refusal.TheVariants as refusal
 use Rattle.session.specs.declared.response.Response.{Response}
 use Rattle.session.specs.declared.response.Response.TheVariants.{Answered, More, Busy, Idle}
 use Rattle.session.specs.declared.handed.Handed.{Handed}
-use Rattle.session.specs.Answering.{Means, RefusalMeans, handed_by, handed_response, served_response}
+use Rattle.session.specs.Answering.{Means, RefusalMeans, Suits, SuitsCall, handed_by, handed_response, served_response}
 use Rattle.session.specs.Devices.{TakesNothing}
-use Rattle.session.specs.Disks.{DiskHasNothing}
-use Rattle.session.specs.Operations.{HasNothing, HoldsUp, IsSpare}
+use Rattle.session.specs.Operations.{HasNoDisk, HasNothing, HoldsUp, IsSpare}
 use Rattle.session.specs.Pacing.{Handle, response_to}
 use Rattle.session.specs.Pausing.{ComesTo, IsBegun, IsEventCall, IsToldCall, IsWhole}
 use Rattle.session.specs.Session.{AnswersInPlace, IsIdle, IsOutside, IsStep, SessionState, world_of}
@@ -649,7 +652,7 @@ module _ {A : Type 0} (old new : SessionState) (slot : ℕ) (what : EventKind A)
 
 host_idle : {A : Type 0} (old new : SessionState) (slot : ℕ) (said : HostEvent)
     → length old.paused ≡ length old.slots → (response : Response A) → IsEventCall old slot (Host said) response new
-    → (refusal_of response ≡ Some refusal.Idle) ↔ (IsIdle slot old × HasNothing slot said old.slots)
+    → (refusal_of response ≡ Some refusal.Idle) ↔ (IsIdle slot old × HasNothing slot Own said old.slots)
 host_idle {A} old new slot said many =
     said_call old new slot (Host said) many refusal.Idle (λ one. IsSpare said one.host one.on_hold) (λ one spare. refl)
     (λ is. cc (is)) (λ is. cc (is))
@@ -663,7 +666,7 @@ pub record HostRefuses {T : Type 0} (old : SessionState) (slot : ℕ) (said : Ho
     : Type 0 where
   pub bad_slot : IsErrOf r refusal.BadSlot ↔ (length old.slots ≤ slot)
   pub busy : IsErrOf r refusal.Busy ↔ (¬ IsIdle slot old)
-  pub idle : IsErrOf r refusal.Idle ↔ (IsIdle slot old × HasNothing slot said old.slots)
+  pub idle : IsErrOf r refusal.Idle ↔ (IsIdle slot old × HasNothing slot Own said old.slots)
 
 pub host_refuses : {A : Type 0} (old new : SessionState) (slot : ℕ) (said : HostEvent) (response : Response A)
     (r : Result Progress Refusal) → Means served_response r response → length old.paused ≡ length old.slots
@@ -696,7 +699,7 @@ device_bad {A} old new slot n what many =
 pub device_idle : {A : Type 0} (old new : SessionState) (slot n : ℕ) (said : HostEvent) (response : Response A)
     (r : Result Progress Refusal) → Means served_response r response → length old.paused ≡ length old.slots
     → IsEventCall old slot (Device n (DiskTold said)) response new
-    → IsErrOf r refusal.Idle ↔ (IsIdle slot old × DiskHasNothing slot n said old.slots)
+    → IsErrOf r refusal.Idle ↔ (IsIdle slot old × HasNothing slot (Further n) said old.slots)
 device_idle {A} old new slot n said response r means many call =
     refused_when served_response response r refusal.Idle (served_pure A) means
     (said_call old new slot (Device n (DiskTold said)) many refusal.Idle
@@ -731,6 +734,70 @@ device_refuses {A} {T} old new slot n what response wanted r pure means many cal
       busy = λ free. only_paused {A = A} old slot (Device n what) refl free says.busy;
       bad_device = refused_when wanted response r refusal.BadDevice pure means
           (device_bad old new slot n what many response call);
+    }
+
+-- ---- what the host says of a disk
+
+-- a slot's own is always there
+own_there : {A : Type 0} (said : HostEvent) (response : Response A) (r : Result Progress Refusal)
+    → Means served_response r response → SuitsCall (Host said) response → IsErrOf r refusal.BadDevice → ⊥
+own_there {A} said response r means suits is =
+    by_response response
+    (means_refused served_response (served_pure A) r response means ∙ ap (λ (x : Result Progress Refusal). refused x) is)
+    suits
+  where
+    by_response : (response : Response A) → refusal_of response ≡ Some refusal.BadDevice
+        → SuitsCall (Host said) response → ⊥
+    by_response (Answered answer) told suits =
+        subst (λ (a : Reply A). Suits (Host said) a) ((says_bad_device answer).0 told) suits
+    by_response More told suits = absurd (cc told)
+    by_response Busy told suits = absurd (cc told)
+    by_response Idle told suits = absurd (cc told)
+
+-- and of a further one it is answered that there is none where there is none
+no_reply : {A : Type 0} (said : HostEvent) (found : Option HostedDisk)
+    → (option_map (told_reply {A = A}) (option_map (has_effect said) found) ≡ None) ↔ (found ≡ None)
+no_reply said None = (λ is. refl, λ is. refl)
+no_reply said (Some disk) = (λ is. absurd (cc is), λ is. absurd (cc is))
+
+missing_by : (A : Type 0) (found : Option BoardSlot) (n : ℕ) (said : HostEvent) (image : List ℕ)
+    → IsSomeAnd found (λ one. reply_at {A = A} n (DiskTold said) (state_of image one) ≡ None)
+    ↔ IsSomeAnd found (λ one. disk_at n one.devices ≡ None)
+missing_by A None n said image = (λ never. never, λ never. never)
+missing_by A (Some one) n said image = no_reply {A = A} said (disk_at n one.devices)
+
+-- what each refusal says that is answered to what the host says of a disk
+pub record DiskRefuses (old : SessionState) (slot : ℕ) (disk : SlotDisk) (said : HostEvent) (r : Result Progress Refusal)
+    : Type 0 where
+  pub bad_slot : IsErrOf r refusal.BadSlot ↔ (length old.slots ≤ slot)
+  pub busy : IsErrOf r refusal.Busy ↔ (¬ IsIdle slot old)
+  pub bad_device : IsErrOf r refusal.BadDevice ↔ (IsIdle slot old × HasNoDisk slot disk old.slots)
+  pub idle : IsErrOf r refusal.Idle ↔ (IsIdle slot old × HasNothing slot disk said old.slots)
+
+pub disk_refuses : {A : Type 0} (old new : SessionState) (slot : ℕ) (disk : SlotDisk) (said : HostEvent)
+    (response : Response A) (r : Result Progress Refusal) → Means served_response r response
+    → SuitsCall (saying disk said) response → length old.paused ≡ length old.slots
+    → IsEventCall old slot (saying disk said) response new → DiskRefuses old slot disk said r
+disk_refuses {A} old new slot Own said response r means suits many call =
+    let says = host_refuses old new slot said response r means many call in
+    record {
+      bad_slot = says.bad_slot;
+      busy = says.busy;
+      bad_device = (λ is. absurd (own_there said response r means suits is), λ never. absurd never.1);
+      idle = says.idle;
+    }
+disk_refuses {A} old new slot (Further n) said response r means suits many call =
+    let says = device_refuses {A = A} old new slot n (DiskTold said) response served_response r (served_pure A) means
+    many call in
+    let missing = missing_by A (slice_get old.slots slot) n said old.image in
+    record {
+      bad_slot = says.bad_slot;
+      busy = says.busy (λ state. refl);
+      bad_device = (
+        λ is. let bad = says.bad_device.0 is in (bad.0, missing.0 bad.1),
+        λ none. says.bad_device.1 (none.0, missing.1 none.1),
+      );
+      idle = device_idle old new slot n said response r means many call;
     }
 
 -- and what is told of the call

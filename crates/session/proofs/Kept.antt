@@ -11,7 +11,8 @@ use Rattle.board.specs.declared.reply.Reply.TheVariants as reply
 use Rattle.board.specs.declared.reply.Record.{Record}
 use Rattle.block_device.specs.Flights.{InFlight}
 use Rattle.board.specs.Backing.{HostDisk, tags_in}
-use Rattle.board.specs.HostedDisks.{LeavesTag, Own}
+use Rattle.board.specs.declared.slot_disk.SlotDisk.TheVariants.{Own}
+use Rattle.board.specs.HostedDisks.{LeavesTag}
 use Rattle.board.specs.Image.{Health}
 use Rattle.board.specs.Outcome.{Outcome, replies}
 use Rattle.board.specs.Slot.{BoardSlot, SlotState}

@@ -38,11 +38,12 @@ use Rattle.board.specs.Pausing.{Begins, IsPiece, IsPieceAtDevice, TurnsTo, asked
 use Rattle.board.specs.Slot.{BoardSlot, SlotState, state_of}
 use Rattle.board.specs.World.{MayGive}
 use Rattle.board.proofs.AtDevice.{image_left}
+use Rattle.board.specs.declared.slot_disk.SlotDisk.TheVariants.{Further as FurtherDisk}
+use Rattle.session.specs.Operations.{HasAsked, hosted_disk_at}
 use Rattle.board.proofs.FurtherPieces.{Asking, asking}
 use Rattle.board.proofs.Lists.{get_set}
 use Rattle.session.specs.declared.response.Response.{Response}
 use Rattle.session.specs.declared.response.Response.TheVariants.{More}
-use Rattle.session.specs.Disks.{DiskHasAsked, hosted_disk_at}
 use Rattle.session.specs.Pacing.{Handle, paused_at, response_to}
 use Rattle.session.specs.Pausing.{ComesTo, IsBegun, IsCall, taken_at}
 use Rattle.session.specs.Session.{SessionState, world_of}
@@ -267,7 +268,7 @@ image_pauses n what state new disk Serves before after asked s =
     )
 
 -- a slot's disk, as its guest sees the slot
-seen_disk : (slots : List BoardSlot) (image : List ℕ) (slot n : ℕ) → hosted_disk_at slot n slots
+seen_disk : (slots : List BoardSlot) (image : List ℕ) (slot n : ℕ) → hosted_disk_at slot (FurtherDisk n) slots
     ≡ option_and_then (λ (state : SlotState). disk_at n state.devices) (slice_get (map (state_of image) slots) slot)
 seen_disk [] image slot n = refl
 seen_disk (s ∷ slots) image zero n = refl
@@ -306,13 +307,13 @@ write_pauses A budget n offset width value state pause before later after output
 
 -- So nothing is in flight of a disk of this number before and after it: there is none.
 pub write_asks : (A : Type 0) (old new : SessionState) (slot n offset width value : ℕ)
-    → Pauses {A = A} old new slot (Device n (Write offset width value)) → DiskHasAsked slot n old new → ⊥
+    → Pauses {A = A} old new slot (Device n (Write offset width value)) → HasAsked slot (FurtherDisk n) old new → ⊥
 write_asks A old new slot n offset width value p asks =
     let none = write_pauses A old.budget n offset width value p.state p.pause p.before p.later p.after p.output p.asks
     p.piece in
     let disk = λ (o : Option SlotState). option_and_then (λ (state : SlotState). disk_at n state.devices) o in
-    let was : hosted_disk_at slot n old.slots ≡ None =
+    let was : hosted_disk_at slot (FurtherDisk n) old.slots ≡ None =
     seen_disk old.slots old.image slot n ∙ ap disk p.there ∙ none.0 in
-    let now : hosted_disk_at slot n new.slots ≡ None =
+    let now : hosted_disk_at slot (FurtherDisk n) new.slots ≡ None =
     seen_disk new.slots new.image slot n ∙ ap disk p.left ∙ none.1 in
     asks (ap (option_map (λ (d : HostedDisk). taken_bits d.tags)) (now ∙ sym was))

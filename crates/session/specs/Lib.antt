@@ -12,5 +12,4 @@ pub mod Course
 pub mod Alone
 pub mod Operations
 pub mod Devices
-pub mod Disks
 pub mod Plugging

@@ -1,41 +1,43 @@
--- What the host is asked to do for a slot, which events wait for it, and when an operation began.
+-- A slot's disks that its host serves: what is in flight, which events wait for that, when an operation began, and where there
+-- is nothing to do for what the host says.
 use Rattle.std.specs.Prelude.{◌≡◌, ◌≢◌, ◌⊎◌, ℕ, ◌+◌, ◌^◌, ◌||◌, Bool, true, false, List, Option, None, IsSomeAnd, IsTrue, get_or}
 use Rattle.std.specs.List.{slice_get}
 use Rattle.std.specs.Option.{option_and_then, option_map}
-use Rattle.block_device.specs.declared.operation.Operation.{Operation}
 use Rattle.block_device.specs.Flights.{InFlight}
-use Rattle.block_device.specs.Tags.{is_any, operation_in, taken_bits}
+use Rattle.block_device.specs.Tags.{is_any, taken_bits}
+use Rattle.hosted_disk.specs.Disk.{HostedDisk}
+use Rattle.hosted_disk.specs.Told.{has_effect}
+use Rattle.device_list.specs.List.{disk_at}
 use Rattle.board.specs.declared.event.EventKind.{EventKind}
 use Rattle.block_device.specs.declared.operation.HostEvent.{HostEvent}
 use Rattle.block_device.specs.declared.operation.HostEvent.TheVariants.{Complete, Drop, Hold, Release}
 use Rattle.board.specs.Backing.{HostDisk, tags_in}
+use Rattle.board.specs.declared.slot_disk.SlotDisk.{SlotDisk}
+use Rattle.board.specs.declared.slot_disk.SlotDisk.TheVariants.{Further, Own}
+use Rattle.board.specs.HostedDisks.{disk_in}
 use Rattle.board.specs.Hosting.{waits_now}
 use Rattle.board.specs.Slot.{BoardSlot, is_at_work, state_of}
 use Rattle.board.specs.Waiting.{waits_beside}
 use Rattle.session.specs.Session.{SessionState}
 
--- what is in flight of a slot with this tag: nothing where its disk is of the image
+-- what is in flight with this tag of a slot's own disk: nothing where that is of the image
 abbrev pub flight_at : ℕ → ℕ → List BoardSlot → Option InFlight
 flight_at slot tag slots = option_and_then (λ found. get_or (tags_in found.host) tag None) (slice_get slots slot)
 
--- what the host is asked to do for a slot with this tag
-abbrev pub operation_at : ℕ → ℕ → List BoardSlot → Option Operation
-operation_at slot tag slots =
-    option_and_then (λ found. operation_in (get_or (tags_in found.host) tag None)) (slice_get slots slot)
+-- the disk of a slot that its host serves, if it is one
+abbrev pub hosted_disk_at : ℕ → SlotDisk → List BoardSlot → Option HostedDisk
+hosted_disk_at slot disk slots = option_and_then (disk_in disk) (slice_get slots slot)
 
--- the tags that are in flight of a slot, as a set of bits: bit n is set where tag n is
-abbrev pub in_flight_at : ℕ → List BoardSlot → Option ℕ
-in_flight_at slot slots = option_map (λ found. taken_bits (tags_in found.host)) (slice_get slots slot)
+-- The tags that are in flight of a disk, as a set of bits: bit n is set where tag n is. None is of a slot's own disk that is of
+-- the image.
+abbrev pub in_flight_at : ℕ → SlotDisk → List BoardSlot → Option ℕ
+in_flight_at slot Own slots = option_map (λ found. taken_bits (tags_in found.host)) (slice_get slots slot)
+in_flight_at slot (Further n) slots =
+    option_map (λ disk. taken_bits disk.tags) (hosted_disk_at slot (Further n) slots)
 
 -- An operation began with a call that ends none: other tags are in flight than before it.
-abbrev pub HasAsked : ℕ → SessionState → SessionState → Type 0
-HasAsked slot old new = in_flight_at slot new.slots ≢ in_flight_at slot old.slots
-
--- An operation began with the completion of a tag: the tags that are in flight, and this one beside them, are
--- other than those that were before it.
-abbrev pub HasAskedBeside : ℕ → ℕ → SessionState → SessionState → Type 0
-HasAskedBeside slot tag old new =
-    option_map (λ taken. taken + 2 ^ tag) (in_flight_at slot new.slots) ≢ in_flight_at slot old.slots
+abbrev pub HasAsked : ℕ → SlotDisk → SessionState → SessionState → Type 0
+HasAsked slot disk old new = in_flight_at slot disk new.slots ≢ in_flight_at slot disk old.slots
 
 -- an operation began with what the host says, by the tags in flight before and after it
 abbrev pub AskedBy : HostEvent → Option ℕ → Option ℕ → Type 0
@@ -48,11 +50,6 @@ AskedBy Release before after = after ≢ before
 abbrev pub HasFlight : ℕ → List BoardSlot → Type 0
 HasFlight slot slots = IsSomeAnd (slice_get slots slot) (λ found. IsTrue (is_at_work found))
 
--- or nothing is with this tag
-abbrev pub HasFree : ℕ → ℕ → List BoardSlot → Type 0
-HasFree slot tag slots =
-    IsSomeAnd (slice_get slots slot) (λ found. get_or (tags_in found.host) tag None ≡ None)
-
 -- Nothing is to be done for what the host says, by who has the disk and whether the slot is on hold: no operation
 -- has the tag, none is in flight, the slot is on hold already, or it isn't. Over an image nothing ever is.
 abbrev pub IsSpare : HostEvent → Option HostDisk → Bool → Type 0
@@ -61,9 +58,18 @@ IsSpare Drop host on_hold = is_any (tags_in host) ≡ false
 IsSpare Hold host on_hold = (host ≡ None) ⊎ (on_hold ≡ true)
 IsSpare Release host on_hold = (host ≡ None) ⊎ (on_hold ≡ false)
 
--- the slot is there, and nothing is to be done for what the host says of it
-abbrev pub HasNothing : ℕ → HostEvent → List BoardSlot → Type 0
-HasNothing slot told slots = IsSomeAnd (slice_get slots slot) (λ found. IsSpare told found.host found.on_hold)
+-- the slot is there and has this disk, and nothing is to be done for what the host says of it
+abbrev pub HasNothing : ℕ → SlotDisk → HostEvent → List BoardSlot → Type 0
+HasNothing slot Own said slots =
+    IsSomeAnd (slice_get slots slot) (λ found. IsSpare said found.host found.on_hold)
+HasNothing slot (Further n) said slots =
+    IsSomeAnd (slice_get slots slot)
+    (λ found. IsSomeAnd (disk_at n found.devices) (λ disk. has_effect said disk ≡ false))
+
+-- the slot is there, and has no such disk: each has one of its own
+abbrev pub HasNoDisk : ℕ → SlotDisk → List BoardSlot → Type 0
+HasNoDisk slot Own slots = ⊥
+HasNoDisk slot (Further n) slots = IsSomeAnd (slice_get slots slot) (λ found. disk_at n found.devices ≡ None)
 
 -- the slot is there, and an event of it waits for what is in flight of one of its disks
 abbrev pub HoldsUp : {A : Type 0} → ℕ → EventKind A → SessionState → Type 0

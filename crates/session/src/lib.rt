@@ -32,8 +32,8 @@ pub use block_device::{Operation, OperationKind, Verdict};
 pub use board::{
     Backing, Board, BoardFault, Budget, CacheFault, Counters, DeviceSpec, Event, EventKind, Extent,
     Fault, FaultNote, GuestMemory, HostEvent, HostedDisk, MOST_DEVICES, MemoryFault, Outlet, Pause,
-    RegionSpec, Regions, Reply, RestoreFault, RestoreRefusal, SaveRefusal, Service, SlotFault,
-    SlotSpec, SlotWindow,
+    RegionSpec, Regions, Reply, RestoreFault, RestoreRefusal, SaveRefusal, Service, SlotDisk,
+    SlotFault, SlotSpec, SlotWindow,
 };
 pub use chain::Segment;
 pub use fault::SessionFault;

@@ -19,8 +19,8 @@ pub enum Progress {
     Done,
     /// The service is paused: `go_on` goes on with it.
     More,
-    /// It is done, and operations began with it, which is told this once: `in_flight` says which tags are in flight, and
-    /// `operation` what the host is asked.
+    /// It is done, and operations began with it, which is told this once: `disk` says which tags are in flight, and what the host is
+    /// asked.
     Asks,
 }
 

@@ -27,7 +27,6 @@ ghost use Rattle.session.specs.Refusing.{AreDevices, AreOutlets, IsBoardFault, I
 mod console;
 mod devices;
 mod disk;
-mod disks;
 mod image;
 mod memory;
 mod registers;

@@ -6,7 +6,7 @@ use crate::wording::ChainSeen;
 use block_device::{BlockDevice, Operation};
 use board::{
     Backing, Board, Budget, DeviceEvent, DeviceSpec, Event, EventKind, GuestMemory, HostedDisk,
-    Pause, Reply, SlotSpec, Turn, Work,
+    Pause, Reply, SlotDisk, SlotSpec, Turn, Work,
 };
 use mmio_window::{DeviceKind, Window};
 use sector_cache::MemoryImage;
@@ -96,7 +96,7 @@ impl Watched {
         match at.device {
             DeviceName::Block => self.board.block_device(at.slot),
             DeviceName::Console => None,
-            DeviceName::Further(_) => match self.further_disk(at) {
+            DeviceName::Further(_) => match self.disk(at) {
                 Some(disk) => Some(*disk.device()),
                 None => self.image_disk(at),
             },
@@ -164,17 +164,8 @@ impl Watched {
 
     /// What the host is asked of a queue's disk by a tag, and of how many runs, where the tag is taken.
     pub fn operation(&self, at: SlotQueue, tag: u8) -> Option<(Operation, usize)> {
-        match at.device {
-            DeviceName::Block => {
-                let operation = self.board.operation(at.slot, tag)?;
-                Some((operation, self.board.runs(at.slot, tag)?.len()))
-            }
-            DeviceName::Console => None,
-            DeviceName::Further(_) => {
-                let disk = self.further_disk(at)?;
-                Some((disk.operation(tag)?, disk.runs(tag).len()))
-            }
-        }
+        let disk = self.disk(at)?;
+        Some((disk.operation(tag)?, disk.runs(tag).len()))
     }
 
     /// Whether a chain has this tag of a queue's disk.
@@ -194,10 +185,7 @@ impl Watched {
 
     /// Whether the host has the queue of a disk that it serves on hold.
     pub fn is_on_hold(&self, at: SlotQueue) -> bool {
-        match at.device {
-            DeviceName::Block => self.is_hosted(at) && self.board.on_hold(at.slot) == Some(true),
-            _ => self.further_disk(at).is_some_and(|disk| disk.is_on_hold()),
-        }
+        self.disk(at).is_some_and(|disk| disk.is_on_hold())
     }
 
     /// How many tags of a queue's disk have no chain that was kept.
@@ -257,12 +245,14 @@ impl Watched {
         &[]
     }
 
-    // The further disk that a queue is of, if it is of one that the host serves.
-    fn further_disk(&self, at: SlotQueue) -> Option<&HostedDisk> {
-        match at.device {
-            DeviceName::Further(number) => self.board.disk(at.slot, number),
-            _ => None,
-        }
+    // The disk that a queue is of, if it is of one that the host serves.
+    fn disk(&self, at: SlotQueue) -> Option<&HostedDisk> {
+        let disk = match at.device {
+            DeviceName::Block => SlotDisk::Own,
+            DeviceName::Console => return None,
+            DeviceName::Further(number) => SlotDisk::Further(number),
+        };
+        self.board.disk(at.slot, disk)
     }
 
     // Begins to keep what is in flight of a further disk. Without memory nothing is said of it.

@@ -1,20 +1,21 @@
-//! The slots' further devices, as somebody sees them who only looks; and their events that take no memory, as calls.
+//! The slots' further devices and hosted disks, as somebody sees them who only looks.
 
 ghost use Rattle.std.specs.Prelude.{◌≡◌, ◌++◌, [], All, None, Some, IfErr, IfOk, IfSome, IsSomeAnd, OnErr};
 ghost use Rattle.std.specs.List.{slice_get};
 ghost use Rattle.std.specs.Option.{option_and_then, option_map};
 ghost use Rattle.block_device.specs.Tags.{TagIsHeld};
-ghost use Rattle.device_list.specs.List.{disk_at, is_starved_at, sent_by};
+ghost use Rattle.device_list.specs.List.{is_starved_at, sent_by};
 ghost use Rattle.board.specs.declared.event.DeviceEvent.{DeviceEvent};
 ghost use Rattle.board.specs.declared.event.EventKind.{EventKind};
 ghost use Rattle.board.specs.Devices.{IsPlugRefusal, IsPlugged};
+ghost use Rattle.board.specs.HostedDisks.{disk_in};
 ghost use Rattle.board.specs.Image.{Tells};
 ghost use Rattle.board.specs.Slot.{BoardSlot};
 ghost use Rattle.board.specs.World.{Answers, KeepsOthers, disturbed_of, extents_of, world_of};
 
 use crate::board::Board;
 use crate::refusal::PlugRefusal;
-use crate::reply::Reply;
+use crate::slot_disk::SlotDisk;
 use device_list::{DeviceSpec, HostedDisk, VirtioDevice};
 use sector_cache::Image;
 use std::alloc::Allocator;
@@ -30,18 +31,18 @@ impl<I: Image, A: Allocator> Board<I, A> {
         slot.slot().device_at(device)
     }
 
-    /// A further disk of a slot that its host serves: what is in flight, by tags. There is no answer where there is no such slot, no
-    /// such device, or it is no disk.
-    pub fn disk(&self, slot: u8, device: u8) -> Option<&HostedDisk<A>>
+    /// A disk of a slot that its host serves: what is in flight, by tags. There is no answer where there is no such slot or device,
+    /// and where the host serves no such disk.
+    pub fn disk(&self, slot: u8, disk: SlotDisk) -> Option<&HostedDisk<A>>
         ensures value { option_map (λ disk. disk.now) result ≡
-            option_and_then (λ found. disk_at device found.devices) (slice_get self.now.slots slot) }
+            option_and_then (disk_in disk) (slice_get self.now.slots slot) }
 
         // nothing that the host is told lies outside the guest's memory or the disk, whatever the guest has done since
         ensures inside { IfSome result (λ disk. IsSomeAnd (slice_get self.now.slots slot) (λ found.
             All (TagIsHeld disk.now.device.extent.count found.memory) disk.now.tags)) }
     {
         let slot = self.slot(slot)?;
-        slot.slot().disk_at(device)
+        slot.disk(disk)
     }
 
     /// Whether a chain is on offer in a further device's queue that waits for what the host supplies.

@@ -1,17 +1,17 @@
 //! What an embedder reaches of a guest between its events.
 
-ghost use Rattle.std.specs.Prelude.{◌≡◌, ◌≢◌, ◌||◌, ◌++◌, ◌∷◌, [], None, IfErr, IfOk, IfSome, OnErr, OnOk, get_or, length};
+ghost use Rattle.std.specs.Prelude.{◌≡◌, ◌≢◌, ◌||◌, ◌++◌, ◌∷◌, [], All, None, IfErr, IfOk, IfSome, OnErr, OnOk, length};
 ghost use Rattle.std.specs.Bool.{OnTrue, OnFalse};
 ghost use Rattle.std.specs.Borrow.{sem};
+ghost use Rattle.std.specs.Option.{option_map};
 ghost use Rattle.guest_memory.specs.Memory.{Inside, IsRest, SameRange, is_inside, stored};
 ghost use Rattle.guest_memory.specs.Pages.{bits_of};
-ghost use Rattle.block_device.specs.Tags.{operation_in, runs_in, taken_bits};
-ghost use Rattle.block_device.specs.Operation.{LiesInside};
+ghost use Rattle.block_device.specs.Tags.{TagIsHeld};
 ghost use Rattle.device_list.specs.Device.{fresh_device};
 ghost use Rattle.device_list.specs.List.{IsRefusedFor, refusal_of};
 ghost use Rattle.board.specs.declared.event.DeviceEvent.{DeviceEvent};
 ghost use Rattle.board.specs.declared.event.EventKind.{EventKind};
-ghost use Rattle.board.specs.Backing.{tags_in};
+ghost use Rattle.board.specs.HostedDisks.{disk_in};
 ghost use Rattle.board.specs.InPlace.{event_in};
 ghost use Rattle.board.specs.Lending.{LendsBytes, with_page_bits};
 ghost use Rattle.board.specs.Pausing.{Begins, PausesByLimit, ServesOver, met_in};
@@ -19,15 +19,15 @@ ghost use Rattle.board.specs.Quiet.{AnswersQuietly, AsksImageDisk, BeginsQuietly
 ghost use Rattle.board.specs.declared.pause.Turn.{Turn};
 ghost use Rattle.board.specs.declared.reply.Reply.{Reply};
 ghost use Rattle.block_device.specs.Extent.{IsWithin, TouchesExtent};
-ghost use Rattle.board.specs.Slot.{AreInterruptWords, KeepsPlace, StaysInSlot, interrupt_words, sectors_in, whole_extent};
+ghost use Rattle.board.specs.Slot.{AreInterruptWords, KeepsPlace, StaysInSlot, interrupt_words, whole_extent};
 
 use crate::guest::Guest;
 use crate::in_place::InPlace;
 use crate::pause::{Pause, Turn};
 use crate::slot::Slot;
-use block_device::Operation;
-use chain::{Budget, Segment};
-use device_list::{AddRefusal, DeviceSpec};
+use crate::slot_disk::SlotDisk;
+use chain::Budget;
+use device_list::{AddRefusal, DeviceSpec, HostedDisk};
 use mmio_window::Stage;
 use sector_cache::{Image, SectorCache};
 use std::alloc::Allocator;
@@ -79,34 +79,15 @@ impl<A: Allocator> Guest<A> {
         self.slot.put_bytes(addr, new)
     }
 
-    /// The tags in flight: bit n is set where tag n is taken.
-    pub(crate) fn in_flight(&self) -> u64
-        ensures { result ≡ taken_bits (tags_in self.now.host) }
+    /// A disk of the slot that its host serves.
+    pub(crate) fn disk(&self, disk: SlotDisk) -> Option<&HostedDisk<A>>
+        ensures value { option_map (λ disk. disk.now) result ≡ disk_in disk self.now }
+        ensures held { IfSome result (λ disk.
+            All (TagIsHeld disk.now.device.extent.count self.now.memory) disk.now.tags) }
     {
-        match self.slot.host() {
-            Some(disk) => disk.taken(),
-            None => 0,
-        }
-    }
-
-    /// What the host is asked to do by this tag.
-    pub(crate) fn operation(&self, tag: u8) -> Option<Operation>
-        ensures { result ≡ operation_in (get_or (tags_in self.now.host) tag None) }
-    {
-        self.slot.host()?.operation(tag)
-    }
-
-    /// Where the bytes of this tag's operation lie: no runs where no operation has it.
-    pub(crate) fn runs(&self, tag: u8) -> &[Segment]
-        ensures runs { result.now ≡ runs_in (get_or (tags_in self.now.host) tag None) }
-
-        // nothing that the host is told lies outside the guest's memory or its disk, whatever the guest has done since
-        ensures inside { IfSome (get_or (tags_in self.now.host) tag None) (λ here.
-            LiesInside (sectors_in self.now) self.now.memory here.flight.operation here.runs) }
-    {
-        match self.slot.host() {
-            Some(disk) => disk.runs(tag),
-            None => &[],
+        match disk {
+            SlotDisk::Own => self.slot.host(),
+            SlotDisk::Further(device) => self.slot.disk_at(device),
         }
     }
 }

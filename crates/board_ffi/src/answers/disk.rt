@@ -3,45 +3,31 @@
 ghost use Rattle.std.specs.Prelude.{◌≡◌, ◌≢◌, None, IfNone, IfSome, is_some, length};
 ghost use Rattle.board_ffi.specs.Calls.{Completes, HasInFlight, IsAskedFor, IsAtRest, IsNoDisk, Says, TellsOf};
 ghost use Rattle.board_ffi.specs.Codes.{code_at};
-ghost use Rattle.board_ffi.specs.Disk.{IsInFlight, flight_of, in_flight_of, rest_code};
+ghost use Rattle.board_ffi.specs.Disk.{IsInFlight, flight_of, rest_code};
 
 use crate::codes::{BAD_SLOT, BAD_WINDOW, DONE, IDLE, of_served};
 use crate::pending::Pending;
-use crate::window::DiskWindow;
 use c_values::{Operation, Run, tell_runs, verdict};
-use session::{HostEvent, Segment, Session, Told};
+use session::{HostEvent, Segment, Session, SlotDisk, Told};
 
 /// Tells which tags of a disk are in flight.
-pub(crate) fn in_flight(session: &Session, slot: u8, disk: DiskWindow, tags: &mut u64) -> u32
+pub(crate) fn in_flight(session: &Session, slot: u8, disk: SlotDisk, tags: &mut u64) -> u32
     ensures told { result ≡ 0 → HasInFlight slot tags.new disk session.now session.now }
     ensures missing { result ≢ 0 → IsNoDisk slot result disk session.now session.now }
     ensures kept { result ≢ 0 → tags.new ≡ tags.old }
 {
-    let Some(taken) = tags_of(session, slot, disk) else {
+    let Some(taken) = session.in_flight(slot, disk) else {
         return no_disk(slot, session.slots());
     };
     *tags = taken;
     DONE
 }
 
-// Which tags of a disk are in flight, if there is such a disk.
-fn tags_of(session: &Session, slot: u8, disk: DiskWindow) -> Option<u64>
-    ensures { result ≡ in_flight_of slot disk session.now.slots }
-{
-    match disk {
-        DiskWindow::Own => session.in_flight(slot),
-        DiskWindow::Further(device) => {
-            let disk = session.disk(slot, device)?;
-            Some(disk.taken())
-        }
-    }
-}
-
 /// Tells what is in flight of a disk with this tag: the operation, and the first of its runs, as many as find room.
 pub(crate) fn operation(
     session: &Session,
     slot: u8,
-    disk: DiskWindow,
+    disk: SlotDisk,
     tag: u8,
     operation: &mut Operation,
     runs: &mut [Run],
@@ -62,43 +48,35 @@ pub(crate) fn operation(
 fn asked_of(
     session: &Session,
     slot: u8,
-    disk: DiskWindow,
+    disk: SlotDisk,
     tag: u8,
 ) -> Option<(session::Operation, &[Segment])>
     ensures asked { IfSome result (λ asked. IsInFlight slot tag disk asked.0 asked.1.now session.now) }
     ensures rests { IfNone result (flight_of slot disk tag session.now.slots ≡ None) }
 {
-    match disk {
-        DiskWindow::Own => session.asked(slot, tag),
-        DiskWindow::Further(device) => {
-            let disk = session.disk(slot, device)?;
-            let asked = disk.operation(tag)?;
-            Some((asked, disk.runs(tag)))
-        }
-    }
+    let found = session.disk(slot, disk)?;
+    let asked = found.operation(tag)?;
+    Some((asked, found.runs(tag)))
 }
 
 // Whether anything is in flight of a disk with this tag.
-fn is_in_flight(session: &Session, slot: u8, disk: DiskWindow, tag: u8) -> bool
+fn is_in_flight(session: &Session, slot: u8, disk: SlotDisk, tag: u8) -> bool
     ensures { result ≡ is_some (flight_of slot disk tag session.now.slots) }
 {
-    match disk {
-        DiskWindow::Own => session.operation(slot, tag).is_some(),
-        DiskWindow::Further(device) => match session.disk(slot, device) {
-            Some(disk) => disk.operation(tag).is_some(),
-            None => false,
-        },
+    match session.disk(slot, disk) {
+        Some(found) => found.operation(tag).is_some(),
+        None => false,
     }
 }
 
 // What is answered of a slot of which nothing is in flight with a tag.
-fn at_rest(session: &Session, slot: u8, disk: DiskWindow) -> u32
+fn at_rest(session: &Session, slot: u8, disk: SlotDisk) -> u32
     ensures { result ≡ rest_code slot disk session.now.slots }
 {
     if usize::from(slot) >= session.slots() {
         return BAD_SLOT;
     }
-    match tags_of(session, slot, disk) {
+    match session.in_flight(slot, disk) {
         Some(_) => IDLE,
         None => BAD_WINDOW,
     }
@@ -109,7 +87,7 @@ fn at_rest(session: &Session, slot: u8, disk: DiskWindow) -> u32
 pub(crate) fn completed(
     session: &mut Session,
     slot: u8,
-    disk: DiskWindow,
+    disk: SlotDisk,
     tag: u8,
     failed: bool,
     pending: &mut Pending,
@@ -136,25 +114,16 @@ pub(crate) fn completed(
 pub(crate) fn told(
     session: &mut Session,
     slot: u8,
-    disk: DiskWindow,
+    disk: SlotDisk,
     said: HostEvent,
     pending: &mut Pending,
 ) -> u32
     ensures says { Says slot said result disk session.old session.new }
     ensures pending { TellsOf slot session.new pending.old pending.new }
 {
-    match disk {
-        DiskWindow::Own => {
-            let Told { answer, waits } = session.say(slot, said);
-            pending.tell_waits(waits);
-            of_served(answer)
-        }
-        DiskWindow::Further(device) => {
-            let answer = session.tell(slot, device, said);
-            pending.tell(session, slot);
-            of_served(answer)
-        }
-    }
+    let Told { answer, waits } = session.tell(slot, disk, said);
+    pending.tell_waits(waits);
+    of_served(answer)
 }
 
 /// What is answered of a slot, of so many, that has no such disk.

@@ -10,8 +10,8 @@ ghost use Rattle.session.specs.declared.refusal.Refusal.{Refusal};
 ghost use Rattle.session.specs.declared.response.Response.{Response};
 ghost use Rattle.session.specs.Answering.{IsReading, Means, SuitsCall, done_response, handed_response, served_response, value_response};
 ghost use Rattle.session.specs.Devices.{TakesNothing, device_waits_at, sent_at, sent_count};
-ghost use Rattle.session.specs.Disks.{DiskHasAsked};
-ghost use Rattle.session.specs.Operations.{HoldsUp};
+ghost use Rattle.board.specs.declared.slot_disk.SlotDisk.{SlotDisk};
+ghost use Rattle.session.specs.Operations.{HasAsked, HoldsUp};
 ghost use Rattle.session.specs.Pausing.{IsEventCall, IsToldCall, taken_at};
 ghost use Rattle.session.specs.Session.{AnswersInPlace, IsIdle};
 
@@ -22,7 +22,7 @@ use crate::response::{Response, Turned};
 use crate::session::Session;
 use crate::told::{DeviceWaits, done};
 use crate::turn_kind::TurnKind;
-use board::{DeviceEvent, EventKind, InPlace, Reply};
+use board::{DeviceEvent, EventKind, InPlace, Reply, SlotDisk};
 use std::alloc::Allocator;
 
 impl<A: Allocator + Copy> Session<A> {
@@ -61,7 +61,7 @@ impl<A: Allocator + Copy> Session<A> {
         ensures call { IsToldCall {A = A} self.old slot (EventKind.Device device (DeviceEvent.Write offset width value))
             (Means served_response result) self.new }
         ensures asks { IfOk result (λ progress.
-            (progress ≡ Progress.Asks) ↔ DiskHasAsked slot device self.old self.new) }
+            (progress ≡ Progress.Asks) ↔ HasAsked slot (SlotDisk.Further device) self.old self.new) }
         ensures bad_slot { IsErrOf result Refusal.BadSlot ↔ (length self.old.slots ≤ slot) }
         ensures busy { IsErrOf result Refusal.Busy ↔
             ((¬ IsIdle slot self.old)
@@ -75,9 +75,9 @@ impl<A: Allocator + Copy> Session<A> {
             width,
             value,
         };
-        let before = self.disk_in_flight(slot, device);
+        let before = self.in_flight(slot, SlotDisk::Further(device));
         let Turned { response, waits: _ } = self.begin_in_place(slot, write);
-        let after = self.disk_in_flight(slot, device);
+        let after = self.in_flight(slot, SlotDisk::Further(device));
         let asks = has_asked(before, after);
         served(response, asks)
     }
@@ -215,7 +215,7 @@ impl<A: Allocator> Session<A> {
             irq: found.interrupts(),
             starved,
             sent: len_of(self.board.sent(slot, device)),
-            tags: self.disk_in_flight(slot, device).unwrap_or(0),
+            tags: self.in_flight(slot, SlotDisk::Further(device)).unwrap_or(0),
         })
     }
 }

@@ -9,6 +9,7 @@ ghost use Rattle.board.specs.Within.{MayPutOut};
 ghost use Rattle.session.specs.declared.progress.Progress.{Progress};
 ghost use Rattle.session.specs.declared.refusal.Refusal.{Refusal};
 ghost use Rattle.session.specs.Answering.{Means, served_response, value_response, went_on_to};
+ghost use Rattle.board.specs.declared.slot_disk.SlotDisk.{SlotDisk};
 ghost use Rattle.session.specs.Operations.{HasAsked, HoldsUp};
 ghost use Rattle.session.specs.Pausing.{IsToldCall, WentOn};
 ghost use Rattle.session.specs.Session.{IsIdle, waits_at};
@@ -19,7 +20,7 @@ use crate::response::{Response, Turned};
 use crate::session::Session;
 use crate::told::Told;
 use crate::turn_kind::TurnKind;
-use board::{Counters, EventKind, FaultNote, Reply, SlotWindow};
+use board::{Counters, EventKind, FaultNote, Reply, SlotDisk, SlotWindow};
 use std::alloc::Allocator;
 
 impl<A: Allocator + Copy> Session<A> {
@@ -62,7 +63,7 @@ impl<A: Allocator + Copy> Session<A> {
         ensures call { IsToldCall {A = A} self.old slot (EventKind.Write window offset width value)
             (Means served_response result.answer) self.new }
         ensures asks { IfOk result.answer (λ progress.
-            (progress ≡ Progress.Asks) ↔ HasAsked slot self.old self.new) }
+            (progress ≡ Progress.Asks) ↔ HasAsked slot SlotDisk.Own self.old self.new) }
         ensures bad_slot { IsErrOf result.answer Refusal.BadSlot ↔ (length self.old.slots ≤ slot) }
         ensures busy { IsErrOf result.answer Refusal.Busy ↔ ((¬ IsIdle slot self.old)
             ⊎ HoldsUp {A = A} slot (EventKind.Write window offset width value) self.old) }
@@ -76,9 +77,9 @@ impl<A: Allocator + Copy> Session<A> {
             width,
             value,
         };
-        let before = self.in_flight(slot);
+        let before = self.in_flight(slot, SlotDisk::Own);
         let Turned { response, waits } = self.turn(slot, TurnKind::Begin(&what));
-        let after = self.in_flight(slot);
+        let after = self.in_flight(slot, SlotDisk::Own);
         let asks = has_asked(before, after);
         Told {
             answer: served(response, asks),
@@ -91,7 +92,7 @@ impl<A: Allocator + Copy> Session<A> {
     pub fn go_on<'s>(&'s mut self, slot: u8) -> Told<Progress>
         ensures call { WentOn A self.old slot result.answer self.new }
         ensures asks { IfOk result.answer (λ progress.
-            (progress ≡ Progress.Asks) ↔ HasAsked slot self.old self.new) }
+            (progress ≡ Progress.Asks) ↔ HasAsked slot SlotDisk.Own self.old self.new) }
         ensures waits { result.waits ≡ waits_at slot self.new }
     {
         let kind: TurnKind<'s, A> = TurnKind::Resume;

@@ -5,7 +5,7 @@ use super::{Guests, event_of};
 use crate::calls::answer::{put_bytes, put_flag, put_number, put_result, put_word, written};
 use crate::calls::subject::{Answered, Stuck};
 use crate::calls::words::Words;
-use board::{DeviceEvent, EventKind};
+use board::{DeviceEvent, EventKind, SlotDisk};
 use session::{DeviceWaits, Segment, Session};
 use std::alloc::{Allocator, Global};
 
@@ -103,7 +103,12 @@ pub(super) fn answer_device<A: Allocator + Copy>(
         DeviceEvent::Resize { cols, rows } => {
             put_result(answer, session.resize_device(slot, device, *cols, *rows))
         }
-        DeviceEvent::Host(said) => put_progress(answer, session.tell(slot, device, *said)),
+        DeviceEvent::Host(said) => {
+            put_progress(
+                answer,
+                session.tell(slot, SlotDisk::Further(device), *said).answer,
+            )
+        }
     }
 }
 
@@ -145,7 +150,7 @@ fn put_operation<A: Allocator>(
     device: u8,
     tag: u8,
 ) -> Answered {
-    let Some(disk) = session.disk(slot, device) else {
+    let Some(disk) = session.disk(slot, SlotDisk::Further(device)) else {
         return put_word(answer, "none");
     };
     let Some(operation) = disk.operation(tag) else {

@@ -3,7 +3,7 @@
 use super::devices::answer_device;
 use crate::calls::answer::{put_bytes, put_number, put_result, put_word, written};
 use crate::calls::subject::Answered;
-use board::{EventKind, HostEvent};
+use board::{EventKind, SlotDisk};
 use session::{Handed, Progress, Refusal, Session};
 use std::alloc::{Allocator, Global};
 
@@ -49,22 +49,11 @@ pub(super) fn answer_event<A: Allocator + Copy>(
             session.resize(slot, *cols, *rows).answer,
         ),
         EventKind::Restore { bytes } => put_result(answer, session.restore(slot, bytes.as_slice())),
-        EventKind::Host(told) => put_progress(answer, tell(session, slot, *told)),
+        EventKind::Host(said) => put_progress(
+            answer,
+            session.tell(slot, SlotDisk::Own, *said).answer,
+        ),
         EventKind::Device { device, what } => answer_device(session, slot, *device, what, answer),
-    }
-}
-
-// Tells a session what a host says of its disk.
-fn tell<A: Allocator + Copy>(
-    session: &mut Session<A>,
-    slot: u8,
-    told: HostEvent,
-) -> Result<Progress, Refusal> {
-    match told {
-        HostEvent::Complete { tag, verdict } => session.completed(slot, tag, verdict).answer,
-        HostEvent::Drop => session.dropped(slot).answer,
-        HostEvent::Hold => session.hold(slot).answer,
-        HostEvent::Release => session.release(slot).answer,
     }
 }
 

@@ -1,48 +1,48 @@
--- When what the host says of a further disk is refused, and when something began with it.
-use Rattle.std.proofs.Common.{refl}
-use Rattle.board.specs.declared.event.DeviceEvent.TheVariants.{Host}
-use Rattle.session.specs.Answering.{served_response}
-use Rattle.session.specs.Disks.{DiskHasAskedBy}
+-- When what the host says of a disk is refused, and when something began with it.
+use Rattle.session.specs.Operations.{AskedBy, in_flight_at}
+use Rattle.session.specs.Pausing.{IsEventCall}
 use Rattle.session.proofs.Asking.{asks_where}
-use Rattle.session.proofs.Devices.{at_once, words_suit}
-use Rattle.session.proofs.Exact.{DeviceRefuses, device_idle, device_refuses, served_pure}
+use Rattle.session.proofs.Devices.{at_once, never_more, says_suit}
+use Rattle.session.proofs.Exact.{DiskRefuses, disk_refuses}
 use Rattle.session.proofs.session.Session.tell.Goals as goal
 
 pub served-requires : goal.served-requires
 served-requires g c =
-    words_suit c.args.device c.args.said c.device_event-response.result c.device_event-response.ensures.suits
+    says_suit c.args.disk c.args.said c.turn-response.result.response
+    (rw c.saying-what.ensures at c.turn-response.ensures.suits)
 
 pub returns-clause-asks : goal.returns-clause-asks
 returns-clause-asks g c =
-    let did = c.device_event-response in
-    asks_where did.result c.served.result c.has_asked_by-asks.result
-    (DiskHasAskedBy c.args.said c.args.slot c.args.device c.args.self.now did.new.self) c.served.ensures.asks
-    (rw (c.disk_in_flight-before.ensures, c.disk_in_flight-after.ensures) at c.has_asked_by-asks.ensures)
-    (λ more asks. absurd (rw more at did.ensures.suits))
+    let turn = c.turn-response in
+    asks_where turn.result.response c.served.result c.has_asked_by-asks.result
+    (AskedBy c.args.said (in_flight_at c.args.slot c.args.disk c.args.self.now.slots)
+    (in_flight_at c.args.slot c.args.disk turn.new.self.slots)) c.served.ensures.asks
+    (rw (c.in_flight-before.ensures, c.in_flight-after.ensures) at c.has_asked_by-asks.ensures)
+    (λ more asks. absurd (never_more g.row.A.Denot c.args.disk c.args.said (rw (c.saying-what.ensures, more) at turn.ensures.suits)))
 
 pub returns-clause-at_once : goal.returns-clause-at_once
 returns-clause-at_once g c =
-    at_once c.args.device c.args.said c.device_event-response.result c.served.result c.served.ensures.told
-    c.device_event-response.ensures.suits
+    at_once c.args.disk c.args.said c.turn-response.result.response c.served.result c.served.ensures.told
+    (rw c.saying-what.ensures at c.turn-response.ensures.suits)
 
-says : (g : _) (c : goal.After-served g)
-    → DeviceRefuses {A = g.row.A.Denot} c.args.self.now c.args.slot c.args.device (Host c.args.said) c.served.result
+says : (g : _) (c : goal.Joined-what g)
+    → DiskRefuses c.args.self.now c.args.slot c.args.disk c.args.said c.served.result
 says g c =
-    let did = c.device_event-response in
-    device_refuses c.args.self.now did.new.self c.args.slot c.args.device (Host c.args.said) did.result
-    served_response c.served.result (served_pure _) c.served.ensures.told did.ensures.as_many did.ensures.call
+    let turn = c.turn-response in
+    let call : IsEventCall c.args.self.now c.args.slot c.saying-what.result turn.result.response turn.new.self =
+    record { turn = turn.ensures.call; whole = turn.ensures.whole } in
+    disk_refuses {A = g.row.A.Denot} c.args.self.now turn.new.self c.args.slot c.args.disk c.args.said
+    turn.result.response c.served.result c.served.ensures.told (rw c.saying-what.ensures at turn.ensures.suits)
+    turn.ensures.as_many (rw c.saying-what.ensures at call)
 
 pub returns-clause-bad_slot : goal.returns-clause-bad_slot
 returns-clause-bad_slot g c = (says g c).bad_slot
 
 pub returns-clause-busy : goal.returns-clause-busy
-returns-clause-busy g c = (says g c).busy (λ state. refl)
+returns-clause-busy g c = (says g c).busy
 
 pub returns-clause-bad_device : goal.returns-clause-bad_device
 returns-clause-bad_device g c = (says g c).bad_device
 
 pub returns-clause-idle : goal.returns-clause-idle
-returns-clause-idle g c =
-    let did = c.device_event-response in
-    device_idle c.args.self.now did.new.self c.args.slot c.args.device c.args.said did.result c.served.result
-    c.served.ensures.told did.ensures.as_many did.ensures.call
+returns-clause-idle g c = (says g c).idle

@@ -1,5 +1,6 @@
 -- When a write is refused, and when it asks the host for something.
 use Rattle.board.specs.declared.event.EventKind.TheVariants.{Write}
+use Rattle.board.specs.declared.slot_disk.SlotDisk.TheVariants.{Own}
 use Rattle.session.specs.Answering.{served_response}
 use Rattle.session.specs.Operations.{HasAsked, in_flight_at}
 use Rattle.session.proofs.Asking.{asked_where, asks_where, pausing_asks}
@@ -11,10 +12,10 @@ returns-clause-asks g c =
     let turn = c.turn-response in
     let old = c.args.self.now in
     let new = turn.new.self in
-    asks_where turn.result.response c.served.result c.has_asked-asks.result (HasAsked c.args.slot old new)
+    asks_where turn.result.response c.served.result c.has_asked-asks.result (HasAsked c.args.slot Own old new)
     c.served.ensures.asks
-    (asked_where c.in_flight-before.result c.in_flight-after.result (in_flight_at c.args.slot old.slots)
-    (in_flight_at c.args.slot new.slots) c.has_asked-asks.result c.in_flight-before.ensures
+    (asked_where c.in_flight-before.result c.in_flight-after.result (in_flight_at c.args.slot Own old.slots)
+    (in_flight_at c.args.slot Own new.slots) c.has_asked-asks.result c.in_flight-before.ensures
     c.in_flight-after.ensures c.has_asked-asks.ensures)
     (pausing_asks old new c.args.slot
     (Write c.args.window c.args.offset c.args.width c.args.value) turn.result.response turn.ensures.call)

@@ -1,8 +1,9 @@
 -- When a write of a further device's window is refused, and when it asks the host for something.
 use Rattle.board.specs.declared.event.DeviceEvent.TheVariants.{Write}
 use Rattle.board.specs.declared.event.EventKind.TheVariants.{Device}
+use Rattle.board.specs.declared.slot_disk.SlotDisk.TheVariants.{Further}
 use Rattle.session.specs.Answering.{served_response}
-use Rattle.session.specs.Disks.{DiskHasAsked, disk_in_flight_at}
+use Rattle.session.specs.Operations.{HasAsked, in_flight_at}
 use Rattle.session.proofs.Asking.{asked_where, asks_where}
 use Rattle.session.proofs.Devices.{writes_suit}
 use Rattle.session.proofs.Exact.{DeviceRefuses, device_refuses, served_pure}
@@ -20,10 +21,10 @@ returns-clause-asks g c =
     let old = c.args.self.now in
     let new = began.new.self in
     asks_where began.result.response c.served.result c.has_asked-asks.result
-    (DiskHasAsked c.args.slot c.args.device old new) c.served.ensures.asks
-    (asked_where c.disk_in_flight-before.result c.disk_in_flight-after.result
-    (disk_in_flight_at c.args.slot c.args.device old.slots) (disk_in_flight_at c.args.slot c.args.device new.slots)
-    c.has_asked-asks.result c.disk_in_flight-before.ensures c.disk_in_flight-after.ensures
+    (HasAsked c.args.slot (Further c.args.device) old new) c.served.ensures.asks
+    (asked_where c.in_flight-before.result c.in_flight-after.result
+    (in_flight_at c.args.slot (Further c.args.device) old.slots) (in_flight_at c.args.slot (Further c.args.device) new.slots)
+    c.has_asked-asks.result c.in_flight-before.ensures c.in_flight-after.ensures
     c.has_asked-asks.ensures)
     (λ more. write_asks g.row.A.Denot old new c.args.slot c.args.device c.args.offset c.args.width c.args.value
     (pauses old new c.args.slot (Device c.args.device (Write c.args.offset c.args.width c.args.value))
