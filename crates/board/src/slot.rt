@@ -41,7 +41,7 @@ pub(crate) use crate::slot::memory::copy_out;
 use crate::spec::SlotSpec;
 use chain::{Budget, Chain};
 use console_device::{ConsoleDevice, Outlet};
-use device_list::DeviceList;
+use device_list::{DeviceList, MOST_DEVICES};
 use guest_memory::GuestMemory;
 use mmio_window::{DeviceKind, Stage, Window};
 use sector_cache::{Image, SectorCache};
@@ -206,11 +206,16 @@ impl<A: Allocator> Slot<A> {
 
     /// What the slot's devices did.
     pub(crate) fn counters(&self) -> Counters {
-        let counters = self.counters.with(self.chain.counts());
-        match self.disk.host() {
-            Some(disk) => counters.with(disk.counts()),
-            None => counters,
+        let mut counters = self.counters.with(self.chain.counts());
+        if let Some(disk) = self.disk.host() {
+            counters = counters.with(disk.counts());
         }
+        for device in 0..MOST_DEVICES as u8 {
+            if let Some(disk) = self.devices.disk(device) {
+                counters = counters.with(disk.counts());
+            }
+        }
+        counters
     }
 
     /// The guest's memory.
