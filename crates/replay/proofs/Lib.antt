@@ -10,4 +10,3 @@ pub mod Telling
 pub mod Answering
 pub mod Lines
 pub mod Begun
-pub mod Disks

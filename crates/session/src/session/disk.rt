@@ -7,9 +7,10 @@ ghost use Rattle.block_device.specs.Tags.{TagIsHeld};
 ghost use Rattle.board.specs.HostedDisks.{saying};
 ghost use Rattle.session.specs.declared.progress.Progress.{Progress};
 ghost use Rattle.session.specs.declared.refusal.Refusal.{Refusal};
-ghost use Rattle.session.specs.Answering.{Means, served_response};
+ghost use Rattle.board.specs.declared.slot_disk.SlotDisk.{SlotDisk};
+ghost use Rattle.session.specs.Answering.{Means, SuitsCall, served_response};
 ghost use Rattle.session.specs.Operations.{AskedBy, HasNoDisk, HasNothing, hosted_disk_at, in_flight_at};
-ghost use Rattle.session.specs.Pausing.{IsToldCall};
+ghost use Rattle.session.specs.Pausing.{IsEventCall, IsToldCall};
 ghost use Rattle.session.specs.Session.{IsIdle, waits_at};
 
 use crate::progress::{Progress, has_asked_by, served};
@@ -40,8 +41,7 @@ impl<A: Allocator + Copy> Session<A> {
         ensures waits { result.waits ≡ waits_at slot self.new }
     {
         let before = self.in_flight(slot, disk);
-        let what = saying(disk, said);
-        let Turned { response, waits } = self.turn(slot, TurnKind::Begin(&what));
+        let Turned { response, waits } = self.say(slot, disk, said);
         let after = self.in_flight(slot, disk);
         let asks = has_asked_by(said, before, after);
         Told {
@@ -49,19 +49,31 @@ impl<A: Allocator + Copy> Session<A> {
             waits,
         }
     }
-}
 
-// The event by which the host says this of a disk.
-#[inline(always)]
-fn saying<A: Allocator>(disk: SlotDisk, said: HostEvent) -> EventKind<A>
-    ensures { result ≡ saying disk said }
-{
-    match disk {
-        SlotDisk::Own => EventKind::Host(said),
-        SlotDisk::Further(device) => EventKind::Device {
-            device,
-            what: DeviceEvent::Host(said),
-        },
+    // The event by which the host says this of a disk.
+    #[inline(always)]
+    fn say(&mut self, slot: u8, disk: SlotDisk, said: HostEvent) -> Turned<A>
+        ensures call { IsEventCall self.old slot (saying disk said) result.response self.new }
+        ensures suits { SuitsCall {A = A} (saying disk said) result.response }
+        ensures as_many { length self.old.paused ≡ length self.old.slots }
+        ensures waits { result.waits ≡ waits_at slot self.new }
+    {
+        match disk {
+            SlotDisk::Own => self.turn(slot, TurnKind::Begin(&EventKind::Host(said))),
+            SlotDisk::Further(device) => self.say_further(slot, device, said),
+        }
+    }
+
+    // That of a further disk.
+    #[inline(never)]
+    fn say_further(&mut self, slot: u8, device: u8, said: HostEvent) -> Turned<A>
+        ensures call { IsEventCall self.old slot (saying (SlotDisk.Further device) said) result.response self.new }
+        ensures suits { SuitsCall {A = A} (saying (SlotDisk.Further device) said) result.response }
+        ensures as_many { length self.old.paused ≡ length self.old.slots }
+        ensures waits { result.waits ≡ waits_at slot self.new }
+    {
+        let what = DeviceEvent::Host(said);
+        self.turn(slot, TurnKind::Begin(&EventKind::Device { device, what }))
     }
 }
 
