@@ -158,6 +158,13 @@ class Disk(Device):
         self.counts["drops of further disks"] += 1
 
 
+class ImageDisk(Device):
+    """A disk over spare sectors of the image, likewise."""
+
+    def served(self, answer, requests):
+        self.counts["requests of disks over spare sectors"] += requests
+
+
 class Card(Device):
     """A network card."""
 
@@ -230,7 +237,7 @@ def bytes_of(answer):
 
 
 # By the first word of a kind in a trace.
-KINDS = {"entropy": Entropy, "network": Card, "disk": Disk, "console": Console}
+KINDS = {"entropy": Entropy, "network": Card, "disk": Disk, "image": ImageDisk, "console": Console}
 
 
 def check_arrivals(guest, records, counts):

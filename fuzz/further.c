@@ -10,7 +10,7 @@
 
 #include "shut_heap.h"
 
-enum { INTERRUPT_STATUS = 0x60, ETHERNET = 14, LONGEST = 1 << 16, MOST_AT_ONCE = 5000, LAST_WINDOW = 255 };
+enum { QUEUE_NOTIFY = 0x50, INTERRUPT_STATUS = 0x60, ETHERNET = 14, LONGEST = 1 << 16, MOST_AT_ONCE = 5000, LAST_WINDOW = 255 };
 
 /* ---- the pages that a service changes */
 
@@ -81,6 +81,18 @@ static const struct further_device *device_of(const struct seat *seat, uint8_t w
     return seat->guest != NULL && number < seat->guest->devices_len ? &seat->guest->devices[number] : NULL;
 }
 
+uint32_t kind_of(const struct further_device *it, bool hosted)
+{
+    return it->is_card ? KALYUBOS_NETWORK : it->is_image_disk && !hosted ? KALYUBOS_IMAGE_DISK : KALYUBOS_ENTROPY;
+}
+
+/* Whether the device of a window is there and of a kind. */
+static bool is_of(const struct seat *seat, uint8_t window, uint32_t kind)
+{
+    const struct further_device *device = device_of(seat, window);
+    return device != NULL && kind_of(device, seat->disk != NULL) == kind;
+}
+
 /* Tells an answer, which is DONE exactly where the device takes such a thing. */
 static uint32_t judged(struct seat *seat, uint32_t answer, bool is_taken)
 {
@@ -108,6 +120,7 @@ static void read_device(struct seat *seat, uint8_t window, const struct event *e
 static void write_device(struct seat *seat, uint8_t window, const struct event *event)
 {
     struct kalyubos_pending pending = { 0 };
+    seat->counts.notified += event->offset == QUEUE_NOTIFY && is_of(seat, window, KALYUBOS_IMAGE_DISK);
     uint32_t answer = kalyubos_write(seat->board, seat->slot, window, (uint16_t)event->offset, (uint8_t)event->width, event->value,
                                      &pending);
     judged(seat, serve_on(seat, answer, &pending), device_of(seat, window) != NULL);
@@ -116,8 +129,7 @@ static void write_device(struct seat *seat, uint8_t window, const struct event *
 
 static void supply(struct seat *seat, uint8_t window, const uint8_t *bytes, size_t len)
 {
-    const struct further_device *device = device_of(seat, window);
-    bool starves = is_starved(seat, window), is_good = device != NULL && !device->is_card;
+    bool starves = is_starved(seat, window), is_good = is_of(seat, window, KALYUBOS_ENTROPY);
     struct kalyubos_pending pending = { 0 };
     size_t taken = 0;
     uint32_t answer = kalyubos_supply(seat->board, seat->slot, window, bytes, len, &taken);
@@ -199,6 +211,20 @@ void act_on_device(struct seat *seat, const struct event *event)
     end_pages(seat);
 }
 
+/* What a host says of disks that it serves: no disk over spare sectors takes it. */
+static void say(struct seat *seat, uint8_t window)
+{
+    struct kalyubos_pending pending = { 0 };
+    uint32_t answer = KALYUBOS_DONE;
+    switch (chance(seat, 4)) {
+    case 0: answer = kalyubos_completed(seat->board, seat->slot, window, (uint8_t)chance(seat, 65), chance(seat, 2) != 0, &pending); break;
+    case 1: answer = kalyubos_drop(seat->board, seat->slot, window, &pending); break;
+    case 2: answer = kalyubos_hold(seat->board, seat->slot, window, &pending); break;
+    default: answer = kalyubos_release(seat->board, seat->slot, window, &pending); break;
+    }
+    judged(seat, answer, false);
+}
+
 static void serve_device(struct seat *seat)
 {
     uint8_t bytes[MOST_AT_ONCE];
@@ -206,7 +232,11 @@ static void serve_device(struct seat *seat)
     uint8_t window = window_of((unsigned)number);
     for (size_t i = 0; i < len; i++)
         bytes[i] = (uint8_t)chance(seat, 256);
-    if (!seat->guest->devices[number].is_card) {
+    if (is_of(seat, window, KALYUBOS_IMAGE_DISK) && chance(seat, 2) == 0) {
+        say(seat, window);
+        return;
+    }
+    if (!is_of(seat, window, KALYUBOS_NETWORK)) {
         supply(seat, window, bytes, len);
         return;
     }

@@ -34,6 +34,9 @@ Chain = namedtuple("Chain", "name places pieces length sent")
 class FurtherDriver(Driver):
     """What all kinds share: a device that is plugged in first, chains that wait in it, and a look at what became of them."""
 
+    # Whether it is a disk over spare sectors of the image.
+    IS_OVER_IMAGE = False
+
     def __init__(self, guest, offered, number, at, mtu):
         self.number, self.at, self.mtu, self.is_plugged, self.is_up = number, at, mtu, False, False
         super().__init__(guest, f"{number:x}", offered, self.places(mtu))
@@ -108,9 +111,19 @@ class FurtherDriver(Driver):
         lines += [f"plug {dice.choice([guest.plugged + 1, 6, 255]):x} entropy", f"plug {absent} network:525400123456:{LEAST_MTU - 1:x}"]
         lines += [f"plug {absent} disk {dice.choice(['80000000000000 rw', 'ffffffffffffffff ro'])} {bytes(20).hex()} 1",
                   f"plug {absent} disk 8 rw {bytes(20).hex()} {dice.choice([0, 65, 255]):x}"]
+        if self.offered.image_disk is not None:
+            lines += [f"plug {absent} image {run} {dice.choice(['rw', 'ro'])} {bytes(20).hex()}" for run in self.bad_runs()]
         lines += [line.format(self.window) for line in self.refused()] if self.is_plugged else []
         word, fields = dice.choice(lines).split(" ", 1)
         guest.do(word, fields, "baddevice")
+
+    def bad_runs(self):
+        """Runs of sectors that no disk of the guest may have now: none, some past the spare ones, and one that another disk has."""
+        dice, spare = self.guest.dice, self.guest.spare
+        taken = [disk.place + dice.randrange(disk.sectors) for disk in self.guest.image_disks() if disk.is_plugged]
+        past = [f"{max(spare, 1) - 1:x} {spare - max(spare, 1) + 2:x}", f"{spare:x} 1", f"0 {spare + 1:x}"]
+        return [f"{dice.randrange(spare + 1):x} 0", dice.choice(past), dice.choice(["1 ffffffffffffffff", "ffffffffffffffff 1"]),
+                *[f"{place:x} 1" for place in taken[:2]]]
 
     def take_out(self, sent):
         """The host takes what was sent, or drops it."""
@@ -353,7 +366,18 @@ def give_devices(guest, offered, dice, others):
     others = guest.slot.others[:6]
     regions = guest.slot._replace(others=others).regions()
     above = sum(regions[-1]) + 0x1000
+    guest.runs = runs_of(dice, guest.spare, sum(driver.IS_OVER_IMAGE for driver, _ in devices))
     guest.apart = (above if above + length <= 1 << 64 else regions[0][0] - 0x1000 - length), length
     guest.slot = guest.slot._replace(others=(*others, guest.apart))
     places = [guest.apart[0] + sum(rooms[:number]) for number in range(len(rooms))]
     guest.further = [driver(guest, offered, number, places[number], mtu) for number, (driver, mtu) in enumerate(devices)]
+
+
+def runs_of(dice, spare, count):
+    """So many runs of spare sectors that are apart, in any order: often all of them, and many border on each other."""
+    ends = sorted(dice.sample(range(spare + 1), count + 1))
+    if dice.random() < 0.5:
+        ends[0], ends[-1] = 0, spare
+    runs = [(first, last - first) for first, last in zip(ends, ends[1:])]
+    dice.shuffle(runs)
+    return runs

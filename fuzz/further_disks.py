@@ -230,8 +230,12 @@ class DiskDriver(FurtherDriver):
             self.disk[zeroed:zeroed + length] = bytes(length)
         if request.what == READ:
             request.sent = bytes(self.disk[at:at + request.length])
-            for address, part in parts(request.pieces, request.sent):
-                self.guest.put(address, part)
+            self.hand_in(request)
+
+    def hand_in(self, request):
+        """What the host read, in the guest's memory."""
+        for address, part in parts(request.pieces, request.sent):
+            self.guest.put(address, part)
 
     def hold(self):
         self.say("dhold", "", "idle" if self.is_held else "done")

@@ -32,8 +32,8 @@ class Slot(namedtuple("Slot", "base length start count read_only columns rows id
 
 
 # What a board offers its drivers: the low word of each window's features, and the high word of both; and the low words of an entropy
-# device, a network card, a disk and a console, where it has these as further devices.
-Offered = namedtuple("Offered", "block console high entropy network disk further_console", defaults=4 * [None])
+# device, a network card, a disk of the host, a console and a disk over the image, where it has these as further devices.
+Offered = namedtuple("Offered", "block console high entropy network disk further_console image_disk", defaults=5 * [None])
 
 # Where a guest keeps its virtqueues, block, receive and transmit: from its memory's base on.
 PLACES = [0x0000, 0x3000, 0x4800]
@@ -89,10 +89,16 @@ class Guest:
         self.looked = []
         # the drivers of its further devices, how many of these are plugged in, and the region that is these drivers' alone
         self.further, self.plugged, self.apart = [], 0, (0, 0)
+        # how many spare sectors of the image it has, what these hold, and the runs of them that are left for drivers of disks
+        self.spare, self.spare_bytes, self.runs = 0, b"", []
 
     def disk_field(self):
         """Who has its disk, as a slot line says it."""
-        return f"host:{self.depth:x}" if self.is_hosted else "image"
+        return f"host:{self.depth:x}" if self.is_hosted else f"image+{self.spare:x}" if self.spare else "image"
+
+    def image_disks(self):
+        """The drivers of its disks over spare sectors."""
+        return [driver for driver in self.further if driver.IS_OVER_IMAGE]
 
     def is_apart(self, word, fields):
         """Whether an event concerns nothing but further devices and their drivers' region."""
@@ -366,6 +372,8 @@ class Mischief:
         self.ways += [self.register, self.register, self.odd_read, self.status, self.move, self.outside, self.long_table]
         self.ways += [self.type] if types else []
         self.windows = ["b", "c"] + [driver.window for driver in guest.further]
+        # whether the board has disks over the image
+        self.has_runs = drivers[0].offered.image_disk is not None
         if guest.further:
             self.ways += [self.odd_chain] * 6 + [self.plug] + [self.odd_host] * 4
 
@@ -377,6 +385,11 @@ class Mischief:
 
     def window(self):
         return self.dice.choice(self.windows)
+
+    def sectors(self):
+        """How many sectors a disk of the guest has, or all spare ones."""
+        guest, own = self.guest, self.guest.slot.count
+        return self.dice.choice([own, guest.spare, *[driver.sectors for driver in guest.image_disks()]]) if guest.spare else own
 
     def number(self):
         """A number at which something may go wrong."""
@@ -397,7 +410,8 @@ class Mischief:
         """A request of any type at any sector, over any buffers."""
         guest, dice, queue = self.guest, self.dice, self.queue()
         queue.give_buffers_back()
-        sector = dice.choice([0, 0, 1, guest.slot.count, guest.slot.count + 1, 1 << 32, 1 << 55, (1 << 64) - 1])
+        count = self.sectors()
+        sector = dice.choice([0, 0, 1, count, count + 1, 1 << 32, 1 << 55, (1 << 64) - 1])
         header = queue.buffer(16)
         guest.put(header, dice.choice(ODD_TYPES).to_bytes(8, "little") + sector.to_bytes(8, "little"))
         buffers = [(header, dice.choice([16, 16, 16, 16, 15, 17]), dice.random() < 0.05)]
@@ -430,7 +444,7 @@ class Mischief:
 
     def odd_segment(self):
         """A segment, most times of few sectors of the disk."""
-        dice, count = self.dice, self.guest.slot.count
+        dice, count = self.dice, self.sectors()
         few = [dice.randrange(count + 1), dice.choice([0, 1, 1, 2]), dice.choice([0, 0, 1])]
         if dice.random() < 0.05:
             few[dice.randrange(3)] = dice.choice([count + 1, 2, 3, 65536, 65537, 1 << 31, (1 << 32) - 1])
@@ -529,9 +543,17 @@ class Mischief:
         """A further device as any number."""
         dice = self.dice
         disk = f"disk {dice.choice([0, 8, 1 << 32, (1 << 55) - 1, 1 << 55]):x} {dice.choice(['rw', 'ro'])} {dice.randbytes(20).hex()} {dice.choice([0, 1, 64, 65]):x}"
-        kind = dice.choice(["entropy", f"network:{dice.randbytes(6).hex()}:{dice.choice([0, 67, 68, 1500, 0xFFFF]):x}", disk,
-                            f"console:{dice.randrange(1 << 16):x}:{dice.randrange(1 << 16):x}"])
-        self.guest.do("plug", f"{dice.choice([0, self.guest.plugged, 5, 6, 255]):x} {kind}")
+        kinds = ["entropy", f"network:{dice.randbytes(6).hex()}:{dice.choice([0, 67, 68, 1500, 0xFFFF]):x}", disk,
+                 f"console:{dice.randrange(1 << 16):x}:{dice.randrange(1 << 16):x}"]
+        kinds += 2 * [self.odd_run()] if self.has_runs else []
+        self.guest.do("plug", f"{dice.choice([0, self.guest.plugged, 5, 6, 255]):x} {dice.choice(kinds)}")
+
+    def odd_run(self):
+        """A disk over a run of sectors, which the guest may have or not."""
+        dice, spare = self.dice, self.guest.spare
+        place = dice.choice([0, 0, 1, max(spare, 1) - 1, spare, dice.randrange(spare + 1), dice.randrange(spare + 1), 1 << 63, (1 << 64) - 1])
+        count = dice.choice([0, 1, 1, 2, 3, spare, spare + 1, 1 << 55, (1 << 64) - 1, -place % (1 << 64)])
+        return f"image {place:x} {count:x} {dice.choice(['rw', 'rw', 'ro'])} {dice.randbytes(20).hex()}"
 
     def odd_host(self):
         """What a host does to further devices, of any kind and of any number."""

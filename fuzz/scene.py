@@ -2,10 +2,11 @@
 import random
 
 from further_consoles import FurtherConsole
-from further_devices import give_devices
+from further_devices import COUNTS, give_devices
 from further_disks import DiskDriver
 from guests import IDENTITY_TEXT, MEMORIES, SECTOR, Guest, Slot, live
 from host import Host, complete_nothing
+from image_disks import SPARES, ImageDisk
 from reader import EXTENDED, FIRST, FIRST_LINES
 
 BASES = [0x80000000, 0x80000000, 0, 0x40000000, (1 << 64) - 0x10000]
@@ -26,10 +27,13 @@ HOSTED, BOTH, LATE = 1 / 3, 1 / 2, 0.7
 # The share of the guests of an extended trace with further devices, where there may be any. A hostile guest whose disk the host serves has
 # none: what they write may change what it asks of its disk, and the model knows nothing of them.
 FURTHER = 1 / 2
+# And of those over an image the share with spare sectors, which such devices may be disks of.
+SPARE = 3 / 4
 # How many events more a guest does for each of them.
 FURTHER_EVENTS = 300
 STRANGE = ["plug {} 0 entropy", "dr {} 0 000 4", "dw {} 0 070 4 00000000", "supply {} 0 ff", "frame {} 0 ff", "take {} 0", "dsent {} 0", "link {} 0 up",
            "dsz {} 0 50 19", "dio {} 0 0 done", "ddrop {} 0", "dhold {} 0", "drelease {} 0"]
+STRANGE_RUN = "plug {} 0 image 0 1 rw 0000000000000000000000000000000000000000"
 
 # How many operations of a hosted disk may be in flight.
 DEPTHS = [1, 1, 2, 3, 8, 64]
@@ -61,10 +65,12 @@ class Scene:
             self.guests.append(Guest(dice, slot, dice.choice(WILDNESS)))
             self.guests[-1].is_hosted = self.is_hosted and not (is_both and kinds.random() < 0.5)
             self.guests[-1].depth = kinds.choice(DEPTHS)
-            start += count + dice.choice([0, 0, 1, 2])
+            self.guests[-1].spare = self.spare(self.guests[-1], offered, random.Random(f"spare {seed} {len(self.guests)}"))
+            start += count + self.guests[-1].spare + dice.choice([0, 0, 1, 2])
         self.image = dice.randbytes(SECTOR * (start + dice.randrange(2)))
         for number, guest in enumerate(self.guests):
             first = SECTOR * guest.slot.start
+            guest.spare_bytes = self.image[first + SECTOR * guest.slot.count:][:SECTOR * guest.spare]
             self.give(guest, offered, random.Random(f"further {seed} {number}"))
             disk = self.image[first:first + SECTOR * guest.slot.count]
             self.live(guest, offered, disk, dice.randrange(100, 350) + FURTHER_EVENTS * len(guest.further))
@@ -92,12 +98,18 @@ class Scene:
                 found.append((dice.choice(places), size))
         return tuple(found)
 
+    def spare(self, guest, offered, dice):
+        """How many spare sectors of the image a guest has."""
+        may = self.may_have_devices and self.first_line == EXTENDED and not guest.is_hosted and offered.image_disk is not None
+        return dice.choice(SPARES) if may and dice.random() < SPARE else 0
+
     def give(self, guest, offered, dice):
-        """Gives a guest further devices, where it may have some."""
+        """Gives a guest further devices, where it may have some; disks over its spare sectors where there are enough for each."""
         may = self.may_have_devices and self.first_line == EXTENDED and not (guest.is_hosted and guest.wildness)
         if may and dice.random() < FURTHER:
+            disks = 3 * [ImageDisk] if guest.spare >= max(COUNTS) else []
             kinds = [(offered.disk, DiskDriver), (offered.further_console, FurtherConsole)]
-            give_devices(guest, offered, dice, [driver for low, driver in kinds if low is not None])
+            give_devices(guest, offered, dice, [driver for low, driver in kinds if low is not None] + disks)
 
     def live(self, guest, offered, disk, count):
         """Makes a guest do about `count` events over its disk."""
@@ -116,8 +128,8 @@ class Scene:
 
     def strangers(self):
         """What happens to slots that aren't there."""
-        has_devices = any(guest.further for guest in self.guests)
-        return STRANGERS + (SAID if self.is_hosted else []) + (STRANGE if has_devices else [])
+        has_devices, has_spare = any(guest.further for guest in self.guests), any(guest.spare for guest in self.guests)
+        return STRANGERS + (SAID if self.is_hosted else []) + (STRANGE if has_devices else []) + ([STRANGE_RUN] if has_spare else [])
 
     def trace(self, cache=None, first_line=None):
         """The whole trace."""
@@ -137,11 +149,10 @@ class Scene:
         word, fields = self.guests[guest].events[number]
         return f"{word} {slot:x}" + (f" {fields}" if fields else "")
 
-    def outside_of_disks(self, image):
-        """The sectors of an image that lie in no guest's extent."""
-        ends = [(guest.slot.start, guest.slot.start + guest.slot.count) for guest in self.guests if not guest.is_hosted]
-        gaps = zip([0] + [last for _, last in ends], [first for first, _ in ends] + [len(image) // SECTOR])
-        return [image[SECTOR * first:SECTOR * last] for first, last in gaps]
+    def changed(self, after):
+        """The sectors that an image has otherwise than the one of before."""
+        sectors = range(0, len(after), SECTOR)
+        return {at // SECTOR for at in sectors if after[at:at + SECTOR] != self.image[at:at + SECTOR]}
 
 
 def slot_line(slot, first_line, disk="image"):

@@ -20,7 +20,7 @@ void tell_pending(struct told *told, const struct kalyubos_pending *pending);
 /* What was counted of a guest. */
 struct counts {
     uint64_t pauses, refused, taken, operations, failures, drops, holds, waits, saves;
-    uint64_t supplied, handed, sent, short_buffers, pages; /* of further devices */
+    uint64_t supplied, handed, sent, short_buffers, pages, notified; /* of further devices, the last of disks over spare sectors */
 };
 
 /* A guest on a board. */

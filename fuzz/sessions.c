@@ -8,7 +8,7 @@
  *
  *     sessions TRACE IMAGE SEED    prints what was counted, or ends with 1 and the first event that was answered otherwise
  *     sessions                     prints the features that a board offers, as records: of both windows, the high word, of an
- *                                  entropy device and of a network card
+ *                                  entropy device, of a network card and of a disk over spare sectors
  *
  * On the board of all guests a guest is saved now and then, a stranger uses its devices, and it is restored (saves.c). All its
  * further devices are there from the beginning (further.c).
@@ -229,9 +229,15 @@ static void begin_part(struct seat *seat)
     seat->told.starts[seat->told.count++] = seat->told.len;
 }
 
+/* How many sectors of the image a guest has, with its spare ones. */
+static uint64_t sectors_of(const struct guest *guest)
+{
+    return guest->count + guest->spare;
+}
+
 static void tell_sectors(struct seat *seat, uint64_t first)
 {
-    size_t len = (size_t)seat->guest->count * SECTOR;
+    size_t len = (size_t)sectors_of(seat->guest) * SECTOR;
     uint8_t *sectors = malloc(len + 1);
     need(sectors != NULL, "memory for the guest's sectors", first);
     if (len > 0)
@@ -273,25 +279,32 @@ static uint32_t depth_of(size_t guest)
     return DEPTHS[(seed + guest) % (sizeof DEPTHS / sizeof *DEPTHS)];
 }
 
-static struct kalyubos_device device_of(const struct further_device *it)
+static struct kalyubos_device device_of(const struct further_device *it, bool hosted)
 {
-    struct kalyubos_device device = { .kind = it->is_card ? KALYUBOS_NETWORK : KALYUBOS_ENTROPY, .mtu = it->mtu };
+    struct kalyubos_device device = { .kind = kind_of(it, hosted), .mtu = it->mtu };
     memcpy(device.mac, it->mac, sizeof device.mac);
+    if (device.kind == KALYUBOS_IMAGE_DISK) {
+        device.start = it->place;
+        device.sectors = it->sectors;
+        device.read_only = it->read_only;
+        memcpy(device.identity, it->identity, sizeof device.identity);
+    }
     return device;
 }
 
-static struct kalyubos_slot slot_of(size_t guest, uint64_t start)
+static struct kalyubos_slot slot_of(size_t guest, uint64_t start, bool hosted)
 {
     const struct guest *it = &trace.guests[guest];
     struct kalyubos_slot slot = {
-        .size = sizeof slot, .start = start, .count = it->count, .cols = it->cols, .rows = it->rows,
+        .size = sizeof slot, .start = start, .count = it->count, .spare = it->spare, .cols = it->cols, .rows = it->rows,
+        .hosted = hosted,
         .outlet = OUTLETS[(seed / MOST_GUESTS + guest) % (sizeof OUTLETS / sizeof *OUTLETS)], .read_only = it->read_only,
         .identity = { 'g', (uint8_t)guest }, .depth = depth_of(guest),
     };
     for (size_t i = 0; i < it->regions_len; i++)
         slot.regions[i] = (struct kalyubos_region){ it->regions[i].base, it->regions[i].len };
     for (size_t i = 0; i < it->devices_len; i++)
-        slot.devices[i] = device_of(&it->devices[i]);
+        slot.devices[i] = device_of(&it->devices[i], hosted);
     return slot;
 }
 
@@ -365,8 +378,7 @@ static void run_together(size_t board, struct file image)
 {
     struct kalyubos_slot slots[MOST_GUESTS];
     for (size_t i = 0; i < trace.guests_len; i++) {
-        slots[i] = slot_of(i, trace.guests[i].start);
-        slots[i].hosted = is_hosted(board, i);
+        slots[i] = slot_of(i, trace.guests[i].start, is_hosted(board, i));
         seats[i] = seat_of(&shared, (uint8_t)i, i);
         if (slots[i].hosted)
             give_disk(&seats[i], image);
@@ -384,9 +396,9 @@ static void run_alone(struct seat *alone, struct file image)
 {
     for (size_t i = 0; i < trace.guests_len; i++) {
         struct kalyubos board = { NULL };
-        struct kalyubos_slot slot = slot_of(i, 0);
+        struct kalyubos_slot slot = slot_of(i, 0, false);
         alone[i] = seat_of(&board, 0, i);
-        make(&board, over_image(&slot, 1, image.at + trace.guests[i].start * SECTOR, trace.guests[i].count * SECTOR));
+        make(&board, over_image(&slot, 1, image.at + trace.guests[i].start * SECTOR, sectors_of(&trace.guests[i]) * SECTOR));
         act_alone(&alone[i]);
         end(&board);
     }
@@ -404,8 +416,7 @@ static void run_hosted_alone(struct seat *alone, struct file image)
     static struct kalyubos boards[MOST_GUESTS];
     pthread_t threads[MOST_GUESTS];
     for (size_t i = 0; i < trace.guests_len; i++) {
-        struct kalyubos_slot slot = slot_of(i, 0);
-        slot.hosted = true;
+        struct kalyubos_slot slot = slot_of(i, 0, true);
         make(&boards[i], kalyubos_config(&slot, 1));
         alone[i] = seat_of(&boards[i], 0, i);
         give_disk(&alone[i], image);
@@ -451,6 +462,7 @@ static void add_counts(const struct counts *counts)
     total.sent += counts->sent;
     total.short_buffers += counts->short_buffers;
     total.pages += counts->pages;
+    total.notified += counts->notified;
 }
 
 static void release(struct seat *seat)
@@ -463,12 +475,14 @@ static void release(struct seat *seat)
 
 static void print_features(void)
 {
-    static const uint8_t windows[] = { KALYUBOS_BLOCK, KALYUBOS_CONSOLE, KALYUBOS_BLOCK, KALYUBOS_DEVICE, KALYUBOS_DEVICE + 1 };
-    static uint8_t image[SECTOR];
+    static const uint8_t windows[] = { KALYUBOS_BLOCK, KALYUBOS_CONSOLE, KALYUBOS_BLOCK, KALYUBOS_DEVICE, KALYUBOS_DEVICE + 1,
+                                       KALYUBOS_DEVICE + 2 };
+    static uint8_t image[2 * SECTOR];
     struct kalyubos board = { NULL };
-    struct kalyubos_slot slot = { .size = sizeof slot, .regions = { { 0, 0x1000 } }, .count = 1,
-                                  .devices = { { .kind = KALYUBOS_ENTROPY }, { .kind = KALYUBOS_NETWORK, .mtu = 1500 } } };
-    make(&board, over_image(&slot, 1, image, SECTOR));
+    struct kalyubos_slot slot = { .size = sizeof slot, .regions = { { 0, 0x1000 } }, .count = 1, .spare = 1,
+                                  .devices = { { .kind = KALYUBOS_ENTROPY }, { .kind = KALYUBOS_NETWORK, .mtu = 1500 },
+                                               { .kind = KALYUBOS_IMAGE_DISK, .sectors = 1 } } };
+    make(&board, over_image(&slot, 1, image, sizeof image));
     for (uint32_t i = 0; i < sizeof windows; i++) {
         struct kalyubos_pending pending;
         uint32_t word = 0;
@@ -514,10 +528,11 @@ int main(int argc, char **argv)
     printf("%zu events, %" PRIu64 " pauses, %" PRIu64 " writes without room, %" PRIu64 " bytes taken, %" PRIu64
            " operations, %" PRIu64 " of them failed, %" PRIu64 " drops, %" PRIu64 " holds, %" PRIu64
            " writes that waited for a disk, %" PRIu64 " guests that were saved and restored, %" PRIu64
-           " bytes of entropy, %" PRIu64 " frames handed over, %" PRIu64 " frames taken, %" PRIu64 " buffers too short for one, %" PRIu64 " marked pages\n",
+           " bytes of entropy, %" PRIu64 " frames handed over, %" PRIu64 " frames taken, %" PRIu64 " buffers too short for one, %" PRIu64 " marked pages, %" PRIu64
+           " notifies of disks over spare sectors\n",
            BOARDS_LEN * events_len, total.pauses, total.refused, total.taken, total.operations, total.failures,
            total.drops, total.holds, total.waits, total.saves, total.supplied, total.handed, total.sent, total.short_buffers,
-           total.pages);
+           total.pages, total.notified);
     free(begun);
     for (size_t i = 0; i < events_len; i++)
         free(events[i].bytes);

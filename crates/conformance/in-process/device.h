@@ -20,15 +20,16 @@ struct region {
 };
 
 /* How many further devices a guest has at most, and one of them: an entropy device, a network card, a disk that the trace
- * serves, with as many sectors, the identity, and at most so many operations in flight, or a console of such a size. */
+ * serves, with as many sectors, the identity, and at most so many operations in flight, a disk over spare sectors of the
+ * guest, from its spare sector `place` on, or a console of such a size. */
 enum { MOST_DEVICES = 6 };
 struct further_device {
-    bool is_card, is_disk, is_console;
+    bool is_card, is_disk, is_image_disk, is_console;
     uint8_t mac[6];
     uint16_t mtu;
     bool read_only;
     uint8_t depth;
-    uint64_t sectors;
+    uint64_t place, sectors;
     uint8_t identity[20];
     uint16_t cols, rows;
 };
@@ -39,6 +40,7 @@ struct guest {
     struct region regions[MOST_REGIONS];
     size_t regions_len;
     uint64_t start, count;
+    uint64_t spare; /* how many sectors of the image behind those are spare ones; 0 where the trace serves the disk */
     bool hosted;   /* the trace serves the disk, which has `count` sectors; its start says nothing, */
     uint8_t depth; /* and up to so many operations of it may be in flight; 0 and more than 64 are BadDepth */
     bool read_only;
@@ -129,6 +131,9 @@ struct further {
     bool (*set_link)(unsigned guest, unsigned number, bool up);
     /* Gives a console another size. Null: guests have no further consoles. */
     bool (*resize)(unsigned guest, unsigned number, uint16_t cols, uint16_t rows);
+    /* Whether guests may have spare sectors of the image, and disks over them: such a disk is read and written by `read` and
+     * `write` here, and done with what was asked when these return. */
+    bool image_disks;
 };
 
 /* The device. What a write or an input notifies is served before the call returns. */

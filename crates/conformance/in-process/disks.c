@@ -34,6 +34,22 @@ static bool is_inside(uint64_t start, uint64_t len, uint64_t first, uint64_t siz
     return start >= first && len <= size && start - first <= size - len;
 }
 
+/* A disk: its guest and its window, and which sectors of the image it has. */
+struct place {
+    unsigned guest;
+    uint8_t window;
+    uint64_t first, count;
+};
+
+static struct place place_of(unsigned guest, unsigned window)
+{
+    const struct guest *its = &setup.guests[guest];
+    if (window < FURTHER_WINDOW)
+        return (struct place){guest, KALYUBOS_BLOCK, its->start, its->count};
+    const struct further_device *disk = &its->devices[window - FURTHER_WINDOW];
+    return (struct place){guest, (uint8_t)window, its->start + its->count + disk->place, disk->sectors};
+}
+
 void open_disks(struct kalyubos *its_board, const struct setup *its_setup)
 {
     board = its_board;
@@ -44,7 +60,7 @@ void open_disks(struct kalyubos *its_board, const struct setup *its_setup)
     need(kept != NULL, "no memory");
     for (size_t i = 0; i < setup.guests_len; i++) {
         const struct guest *guest = &setup.guests[i];
-        need(guest->hosted || is_inside(guest->start, guest->count, 0, setup.image_len / SECTOR),
+        need(guest->hosted || is_inside(guest->start, guest->count + guest->spare, 0, setup.image_len / SECTOR),
              "a disk outside the image");
     }
 }
@@ -110,9 +126,9 @@ struct asked {
     struct kalyubos_run runs[KALYUBOS_RUNS];
 };
 
-static void ask(unsigned guest, struct asked *asked)
+static void ask(const struct place *disk, struct asked *asked)
 {
-    need(kalyubos_operation(board, (uint8_t)guest, KALYUBOS_BLOCK, 0, &asked->operation, asked->runs, KALYUBOS_RUNS) == KALYUBOS_DONE,
+    need(kalyubos_operation(board, (uint8_t)disk->guest, disk->window, 0, &asked->operation, asked->runs, KALYUBOS_RUNS) == KALYUBOS_DONE,
          "nothing is in flight");
 }
 
@@ -124,25 +140,25 @@ static bool is_same(const struct asked *a, const struct asked *b)
 }
 
 /* What was judged when the operation began, and that it is told alike again. */
-static void check(unsigned guest, const struct asked *asked)
+static void check(const struct place *disk, const struct asked *asked)
 {
     static struct asked again;
-    const struct guest *its = &setup.guests[guest];
+    const struct guest *its = &setup.guests[disk->guest];
     const struct kalyubos_operation *operation = &asked->operation;
     bool is_of_disk = operation->kind == KALYUBOS_ZEROES;
     uint64_t len = 0, tags = 0;
-    ask(guest, &again);
+    ask(disk, &again);
     need(is_same(&again, asked), "the operation is told otherwise when it is asked for again");
     need(operation->kind <= KALYUBOS_ZEROES && operation->runs <= KALYUBOS_RUNS, "no operation");
     for (uint32_t i = 0; i < operation->runs; i++) {
         const struct kalyubos_run *run = &asked->runs[i];
         need(run->len > 0, "an empty run");
-        need(is_of_disk ? is_inside(run->at, run->len, 0, its->count * SECTOR)
+        need(is_of_disk ? is_inside(run->at, run->len, 0, disk->count * SECTOR)
                         : is_in_memory(its, run->at, run->len), "a run lies outside");
         len += is_of_disk ? 0 : run->len;
     }
-    need(kalyubos_in_flight(board, (uint8_t)guest, KALYUBOS_BLOCK, &tags) == KALYUBOS_DONE && tags == 1, "other tags");
-    need(operation->len == len && is_inside(operation->start, len, 0, its->count * SECTOR), "the bytes lie outside the disk");
+    need(kalyubos_in_flight(board, (uint8_t)disk->guest, disk->window, &tags) == KALYUBOS_DONE && tags == 1, "other tags");
+    need(operation->len == len && is_inside(operation->start, len, 0, disk->count * SECTOR), "the bytes lie outside the disk");
 }
 
 /* Copies the bytes of a sector between a buffer and the runs, from their byte `from` on. */
@@ -163,28 +179,28 @@ static void move_sector(unsigned guest, const struct asked *asked, uint64_t from
     }
 }
 
-static bool read_or_write(unsigned guest, const struct asked *asked)
+static bool read_or_write(const struct place *disk, const struct asked *asked)
 {
     const struct kalyubos_operation *operation = &asked->operation;
-    uint64_t first = setup.guests[guest].start + operation->start / SECTOR;
+    uint64_t first = disk->first + operation->start / SECTOR;
     uint8_t bytes[SECTOR];
     for (uint64_t at = 0; at < operation->len; at += SECTOR) {
         bool put = operation->kind == KALYUBOS_IN;
         if (!put)
-            move_sector(guest, asked, at, bytes, false);
+            move_sector(disk->guest, asked, at, bytes, false);
         if (!(put ? read_sector(first + at / SECTOR, bytes) : write_sector(first + at / SECTOR, bytes, true)))
             return false;
         if (put)
-            move_sector(guest, asked, at, bytes, true);
+            move_sector(disk->guest, asked, at, bytes, true);
     }
     return true;
 }
 
-static bool write_zeroes(unsigned guest, const struct asked *asked)
+static bool write_zeroes(const struct place *disk, const struct asked *asked)
 {
     static const uint8_t zeros[SECTOR];
     for (uint32_t i = 0; i < asked->operation.runs; i++) {
-        uint64_t first = setup.guests[guest].start + asked->runs[i].at / SECTOR;
+        uint64_t first = disk->first + asked->runs[i].at / SECTOR;
         for (uint64_t sector = 0; sector < asked->runs[i].len / SECTOR; sector++)
             if (!write_sector(first + sector, zeros, false))
                 return false;
@@ -192,22 +208,23 @@ static bool write_zeroes(unsigned guest, const struct asked *asked)
     return true;
 }
 
-static bool perform(unsigned guest, const struct asked *asked)
+static bool perform(const struct place *disk, const struct asked *asked)
 {
     const struct kalyubos_operation *operation = &asked->operation;
-    bool done = operation->kind == KALYUBOS_ZEROES ? write_zeroes(guest, asked) : read_or_write(guest, asked);
+    bool done = operation->kind == KALYUBOS_ZEROES ? write_zeroes(disk, asked) : read_or_write(disk, asked);
     bool flushes = operation->kind == KALYUBOS_FLUSH || operation->stable;
     return done && (!flushes || call_image());
 }
 
-uint32_t serve_disk(unsigned guest, uint32_t answer, struct kalyubos_pending *pending)
+uint32_t serve_disk(unsigned guest, unsigned window, uint32_t answer, struct kalyubos_pending *pending)
 {
     static struct asked asked;
     while (answer == KALYUBOS_IO) {
-        ask(guest, &asked);
-        check(guest, &asked);
-        bool done = perform(guest, &asked);
-        answer = kalyubos_completed(board, (uint8_t)guest, KALYUBOS_BLOCK, 0, !done, pending);
+        struct place disk = place_of(guest, window);
+        ask(&disk, &asked);
+        check(&disk, &asked);
+        bool done = perform(&disk, &asked);
+        answer = kalyubos_completed(board, (uint8_t)guest, disk.window, 0, !done, pending);
     }
     return answer;
 }

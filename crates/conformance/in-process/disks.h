@@ -8,7 +8,8 @@
 /* Serves the disks of a board that was made of this setup, but those that the trace serves. */
 void open_disks(struct kalyubos *board, const struct setup *setup);
 
-/* Goes on behind a call that was answered so, until nothing of the guest is in flight. The answer is then DONE for IO. */
-uint32_t serve_disk(unsigned guest, uint32_t answer, struct kalyubos_pending *pending);
+/* Goes on behind a call of a window that was answered so, until nothing is in flight of the guest's disk there: its own one, or one
+ * over spare sectors. The answer is then DONE for IO. */
+uint32_t serve_disk(unsigned guest, unsigned window, uint32_t answer, struct kalyubos_pending *pending);
 
 #endif

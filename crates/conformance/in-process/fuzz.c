@@ -135,8 +135,8 @@ int LLVMFuzzerTestOneInput(const uint8_t *bytes, size_t len)
 {
     static uint8_t images[2][IMAGE];
     struct trace trace;
-    if (!read_setup((const char *)bytes, len, &trace) || !has_such_disks(&device, &trace) ||
-        !has_such_disks(&kalyubos, &trace))
+    if (!read_setup((const char *)bytes, len, &trace) || why_no_disks(&device, &trace) ||
+        why_no_disks(&kalyubos, &trace))
         return -1;
     for (size_t i = 0; i < trace.guests_len; i++)
         if (memory_size(&trace.guests[i]) > MOST_MEMORY)

@@ -12,7 +12,9 @@ import model
 from model import SECTOR
 
 
-class ServedSlot(model.HostedSlot):
+class Served(model.HostedSlot):
+    """A disk with its host."""
+
     def serve(self, window, index):
         output = super().serve(window, index)
         while any(self.tags):
@@ -38,28 +40,43 @@ class ServedSlot(model.HostedSlot):
             return False
         return True
 
-    def sectors(self, start, length):
+    def run(self, start, length):
         """The image's sectors of so many bytes of the disk."""
         return range(self.start + start // SECTOR, self.start + (start + length) // SECTOR)
 
     def do_in(self, asked):
-        for number, sector in enumerate(self.sectors(asked.start, asked.length)):
+        for number, sector in enumerate(self.run(asked.start, asked.length)):
             asked.chain.write(number * SECTOR, self.cache.read(sector))
 
     def do_out(self, asked):
         content = b"".join(self.memory.part(at, count) for at, count in asked.runs)
-        for number, sector in enumerate(self.sectors(asked.start, asked.length)):
+        for number, sector in enumerate(self.run(asked.start, asked.length)):
             self.cache.write(sector, content[number * SECTOR:(number + 1) * SECTOR])
 
     def do_zeroes(self, asked):
-        for sector in [sector for at, count in asked.runs for sector in self.sectors(at, count)]:
+        for sector in [sector for at, count in asked.runs for sector in self.run(at, count)]:
             self.cache.zero(sector)
 
     def do_flush(self, asked):
         self.cache.flush()
 
 
-model.SLOTS["image"] = ServedSlot
+class ServedImageDisk(Served, model.ImageDisk):
+    """A further disk over spare sectors, which the host serves too."""
+
+    def __init__(self, *words):
+        super().__init__(*words)
+        self.windows["b"], self.tags = self.window, [None]
+
+    def use(self, index, chain):
+        return self.request(chain)
+
+
+def image_disk_of(slot, place, count, mode, identity):
+    return ServedImageDisk(slot, int(place, 16), int(count, 16), mode, bytes.fromhex(identity))
+
+
+model.SLOTS["image"], model.image_disk_of = Served, image_disk_of
 
 if __name__ == "__main__":
     sys.exit(print(__doc__) if "--help" in sys.argv else model.main(sys.argv[1:]))

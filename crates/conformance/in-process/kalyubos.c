@@ -61,9 +61,9 @@ static void open_disks(struct kalyubos *its_board, const struct setup *setup)
     (void)its_board, (void)setup;
 }
 
-static uint32_t serve_disk(unsigned guest, uint32_t answer, const struct kalyubos_pending *pending)
+static uint32_t serve_disk(unsigned guest, unsigned window, uint32_t answer, const struct kalyubos_pending *pending)
 {
-    (void)guest, (void)pending;
+    (void)guest, (void)window, (void)pending;
     return answer;
 }
 #endif
@@ -77,7 +77,7 @@ static const char *make(const struct setup *setup)
     for (size_t i = 0; i < setup->guests_len; i++) {
         const struct guest *guest = &setup->guests[i];
         slots[i] = (struct kalyubos_slot){
-            .size = sizeof *slots, .start = guest->start, .count = guest->count, .cols = guest->cols,
+            .size = sizeof *slots, .start = guest->start, .count = guest->count, .spare = guest->spare, .cols = guest->cols,
             .rows = guest->rows, .outlet = MOST_WAITING, .read_only = guest->read_only,
             .hosted = guest->hosted || HOSTED,
             .depth = guest->hosted && guest->depth == 0 ? UINT32_MAX : guest->depth, /* of C's slots 0 is 1 */
@@ -88,9 +88,10 @@ static const char *make(const struct setup *setup)
         for (size_t j = 0; j < guest->devices_len; j++) {
             const struct further_device *device = &guest->devices[j];
             slots[i].devices[j] = (struct kalyubos_device){
-                .kind = device->is_disk ? KALYUBOS_DISK : device->is_card ? KALYUBOS_NETWORK :
+                .kind = device->is_disk || (device->is_image_disk && HOSTED) ? KALYUBOS_DISK :
+                        device->is_image_disk ? KALYUBOS_IMAGE_DISK : device->is_card ? KALYUBOS_NETWORK :
                         device->is_console ? KALYUBOS_CONSOLE_DEVICE : KALYUBOS_ENTROPY,
-                .cols = device->cols, .rows = device->rows,
+                .start = device->place, .cols = device->cols, .rows = device->rows,
                 .mtu = device->mtu, .sectors = device->sectors, .read_only = device->read_only, .depth = device->depth,
             };
             memcpy(slots[i].devices[j].mac, device->mac, sizeof device->mac);
@@ -143,7 +144,7 @@ static void write(unsigned guest, unsigned window, unsigned offset, unsigned wid
     do {
         answer = kalyubos_write(&board, (uint8_t)guest, (uint8_t)window, (uint16_t)offset, (uint8_t)width, value,
                                 &pending);
-        answer = serve_disk(guest, answer, &pending);
+        answer = serve_disk(guest, window, answer, &pending);
     } while (take_output(guest) && answer == KALYUBOS_NO_ROOM);
     must(answer);
 }
@@ -296,7 +297,8 @@ static bool read_device(unsigned guest, unsigned number, unsigned offset, unsign
 static bool write_device(unsigned guest, unsigned number, unsigned offset, unsigned width, uint32_t value)
 {
     struct kalyubos_pending pending;
-    return took(kalyubos_write(&board, (uint8_t)guest, window_of(number), (uint16_t)offset, (uint8_t)width, value, &pending));
+    uint32_t answer = kalyubos_write(&board, (uint8_t)guest, window_of(number), (uint16_t)offset, (uint8_t)width, value, &pending);
+    return took(serve_disk(guest, FURTHER_WINDOW + number, answer, &pending));
 }
 
 static bool supply(unsigned guest, unsigned number, const uint8_t *bytes, size_t len, size_t *taken)
@@ -326,7 +328,7 @@ static bool resize_device(unsigned guest, unsigned number, uint16_t cols, uint16
     return took(kalyubos_resize_device(&board, (uint8_t)guest, window_of(number), cols, rows));
 }
 
-static const struct further further = {read_device, write_device, supply, receive, take, set_link, resize_device};
+static const struct further further = {read_device, write_device, supply, receive, take, set_link, resize_device, true};
 
 static const struct hosting hosting = {true, true, write_hosted, complete, began, asked, drop, hold, release};
 

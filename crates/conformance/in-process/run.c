@@ -100,9 +100,9 @@ int main(int argc, char **argv)
         fputs("the text isn't a trace, or has more guests than its version may have\n", stderr);
         return 77;
     }
-    if (!has_such_disks(&device, &trace)) {
-        fputs(device.hosting ? "a trace may serve all of the device's disks, or none\n"
-                             : "no trace may serve the device's disks\n", stderr);
+    const char *lack = why_no_disks(&device, &trace);
+    if (lack) {
+        fprintf(stderr, "%s\n", lack);
         return 77;
     }
     struct setup setup = {trace.guests, trace.guests_len, image, image_len, trace.cache, fails, fails_len, trace.hosted};

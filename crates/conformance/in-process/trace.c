@@ -89,6 +89,16 @@ static bool next_line(const char **at, const char *end, struct field *line)
     return true;
 }
 
+/* Whether a field begins with a word, and what stands behind it. */
+static bool begins(struct field field, const char *word, struct field *rest)
+{
+    size_t len = strlen(word);
+    if (field.len < len || memcmp(field.at, word, len))
+        return false;
+    *rest = (struct field){field.at + len, field.len - len};
+    return true;
+}
+
 /* The identity of a guest: in version 1 always the same, else a field. */
 static bool read_identity(const struct field *field, struct guest *guest)
 {
@@ -145,31 +155,47 @@ static bool read_regions(struct field field, struct guest *guest)
     return false;
 }
 
-/* Who has the disk, in an extended trace: `image`, or `host:` and how many operations may be in flight. */
+/* Who has the disk, in an extended trace: `image`, with `+` and how many sectors where there are spare ones, or `host:` and how
+ * many operations may be in flight. */
 static bool read_disk(struct field field, struct guest *guest)
 {
-    static const char word[] = "host:";
-    size_t len = strlen(word);
+    struct field rest;
     uint64_t depth;
-    if (field.len < len || memcmp(field.at, word, len))
+    if (begins(field, "image+", &rest))
+        return number(rest, UINT64_MAX, &guest->spare) && guest->spare > 0;
+    if (!begins(field, "host:", &rest))
         return is(field, "image");
-    guest->hosted = number((struct field){field.at + len, field.len - len}, 0xff, &depth);
+    guest->hosted = number(rest, 0xff, &depth);
     guest->depth = guest->hosted ? (uint8_t)depth : 0;
     return guest->hosted;
 }
 
-/* A disk, of four fields behind its word. */
-static bool read_further_disk(const struct field *fields, struct further_device *device)
+/* A further disk's sectors, mode and identity. */
+static bool read_sectors(const struct field *fields, struct further_device *device)
 {
     struct guest its = {0};
-    uint64_t depth;
     bool good = number(fields[0], UINT64_MAX, &device->sectors) && (is(fields[1], "rw") || is(fields[1], "ro")) &&
-                read_identity(&fields[2], &its) && number(fields[3], 0xff, &depth);
-    device->is_disk = true;
+                read_identity(&fields[2], &its);
     device->read_only = is(fields[1], "ro");
-    device->depth = good ? (uint8_t)depth : 0;
     memcpy(device->identity, its.identity, sizeof device->identity);
     return good;
+}
+
+/* A disk that the trace serves, of four fields behind its word. */
+static bool read_further_disk(const struct field *fields, struct further_device *device)
+{
+    uint64_t depth;
+    bool good = read_sectors(fields, device) && number(fields[3], 0xff, &depth);
+    device->is_disk = true;
+    device->depth = good ? (uint8_t)depth : 0;
+    return good;
+}
+
+/* A disk over spare sectors, of four fields behind its word. */
+static bool read_image_disk(const struct field *fields, struct further_device *device)
+{
+    device->is_image_disk = true;
+    return number(fields[0], UINT64_MAX, &device->place) && read_sectors(&fields[1], device);
 }
 
 /* A console's columns and rows, behind its word. */
@@ -186,40 +212,60 @@ static bool read_console(struct field field, struct further_device *device)
     return true;
 }
 
-/* What a further device is, of the fields behind its number. */
-static bool read_kind(const struct field *fields, size_t count, struct further_device *device)
+/* A card's address and its MTU, behind its word. */
+static bool read_card(struct field field, struct further_device *device)
 {
-    struct field field = fields[0];
-    static const char word[] = "network:", console[] = "console:";
-    size_t len = strlen(word), digits = 2 * sizeof device->mac;
+    size_t digits = 2 * sizeof device->mac;
     uint64_t mtu;
-    if (is(field, "disk") || count != 1)
-        return is(field, "disk") && count == 5 && read_further_disk(&fields[1], device);
-    if (field.len >= strlen(console) && !memcmp(field.at, console, strlen(console)))
-        return read_console((struct field){field.at + strlen(console), field.len - strlen(console)}, device);
-    device->is_card = !is(field, "entropy");
-    if (!device->is_card)
-        return true;
-    if (field.len < len + digits + 1 || memcmp(field.at, word, len) || field.at[len + digits] != ':')
+    device->is_card = true;
+    if (field.len < digits + 1 || field.at[digits] != ':')
         return false;
     for (size_t i = 0; i < sizeof device->mac; i++) {
-        int high = digit(field.at[len + 2 * i]), low = digit(field.at[len + 2 * i + 1]);
+        int high = digit(field.at[2 * i]), low = digit(field.at[2 * i + 1]);
         if (high < 0 || low < 0)
             return false;
         device->mac[i] = (uint8_t)(16 * high + low);
     }
-    if (!number((struct field){field.at + len + digits + 1, field.len - len - digits - 1}, 0xffff, &mtu))
+    if (!number((struct field){field.at + digits + 1, field.len - digits - 1}, 0xffff, &mtu))
         return false;
     device->mtu = (uint16_t)mtu;
     return true;
 }
 
+/* What a further device is, of the fields behind its number. */
+static bool read_kind(const struct field *fields, size_t count, struct further_device *device)
+{
+    struct field field = fields[0], rest;
+    if (count == 5 && is(field, "image"))
+        return read_image_disk(&fields[1], device);
+    if (is(field, "disk") || count != 1)
+        return is(field, "disk") && count == 5 && read_further_disk(&fields[1], device);
+    if (begins(field, "console:", &rest))
+        return read_console(rest, device);
+    return begins(field, "network:", &rest) ? read_card(rest, device) : is(field, "entropy");
+}
+
+/* Whether a disk's spare sectors are those of its guest, and no other disk's among so many devices. */
+static bool are_free(const struct guest *guest, size_t plugged, const struct further_device *device)
+{
+    uint64_t place = device->place, sectors = device->sectors;
+    if (sectors == 0 || place > guest->spare || sectors > guest->spare - place)
+        return false;
+    for (size_t i = 0; i < plugged; i++) {
+        const struct further_device *other = &guest->devices[i];
+        if (other->is_image_disk && place < other->place + other->sectors && other->place < place + sectors)
+            return false;
+    }
+    return true;
+}
+
 /* Whether a guest with so many further devices takes this one as its next. */
-static bool may_plug(size_t plugged, unsigned number, const struct further_device *device)
+static bool may_plug(const struct guest *guest, size_t plugged, unsigned number, const struct further_device *device)
 {
     enum { LEAST_MTU = 68, MOST_DEPTH = 64 };
     return number == plugged && plugged < MOST_DEVICES && (!device->is_card || device->mtu >= LEAST_MTU) &&
-           (!device->is_disk || (device->sectors >> 55 == 0 && device->depth >= 1 && device->depth <= MOST_DEPTH));
+           (!device->is_disk || (device->sectors >> 55 == 0 && device->depth >= 1 && device->depth <= MOST_DEPTH)) &&
+           (!device->is_image_disk || are_free(guest, plugged, device));
 }
 
 /* Gives each guest the devices that the events plug in: those that aren't plugged in yet take no event. */
@@ -234,7 +280,7 @@ static void read_plugs(struct trace *trace)
             !read_kind(&fields[3], count - 3, &device) || guest >= trace->guests_len)
             continue;
         struct guest *its = &trace->guests[guest];
-        if (may_plug(its->devices_len, (unsigned)which, &device))
+        if (may_plug(its, its->devices_len, (unsigned)which, &device))
             its->devices[its->devices_len++] = device;
     }
 }
@@ -276,13 +322,20 @@ bool read_setup(const char *text, size_t len, struct trace *trace)
             return false;
         trace->hosted = trace->hosted || guest->hosted;
         trace->has_extents = trace->has_extents || !guest->hosted;
+        trace->has_spare = trace->has_spare || guest->spare > 0;
     }
     return true;
 }
 
-bool has_such_disks(const struct device *device, const struct trace *trace)
+const char *why_no_disks(const struct device *device, const struct trace *trace)
 {
-    return !trace->hosted || (device->hosting && (device->hosting->beside_extents || !trace->has_extents));
+    if (trace->has_spare && !(device->further && device->further->image_disks))
+        return "no guest may have spare sectors of the image";
+    if (!trace->hosted)
+        return NULL;
+    if (!device->hosting)
+        return "no trace may serve the device's disks";
+    return device->hosting->beside_extents || !trace->has_extents ? NULL : "a trace may serve all of the device's disks, or none";
 }
 
 static bool read_bytes(struct field field, struct event *event)
@@ -383,7 +436,7 @@ static bool read_device_fields(const struct field *fields, size_t count, struct 
             return false;
         event->is_disk = device.is_disk;
         event->is_console = device.is_console;
-        event->is_there = plugged && may_plug(*plugged, event->number, &device);
+        event->is_there = plugged && may_plug(&trace->guests[event->guest], *plugged, event->number, &device);
         if (event->is_there)
             ++*plugged;
         return true;

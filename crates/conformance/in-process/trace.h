@@ -9,6 +9,7 @@ enum { MOST_GUESTS = 64 };
 /* What stands before a trace's events. */
 struct trace {
     bool hosted, has_extents; /* the trace serves a disk, or all; a disk is on the image */
+    bool has_spare;           /* a guest has spare sectors */
     uint32_t cache;
     struct guest guests[MOST_GUESTS];
     size_t guests_len;
@@ -40,8 +41,8 @@ struct text {
     size_t len, room;
 };
 
-/* Whether the device can be asked for the disks of a trace. */
-bool has_such_disks(const struct device *device, const struct trace *trace);
+/* Why the device can't be asked for the disks of a trace, in a sentence, or NULL. */
+const char *why_no_disks(const struct device *device, const struct trace *trace);
 
 /* Reads what stands before the events. False: the text isn't a trace that this program can replay. */
 bool read_setup(const char *text, size_t len, struct trace *trace);
