@@ -156,7 +156,7 @@ static void hand_over(struct seat *seat, uint8_t window, const uint8_t *frame, s
 /* Takes a frame into a buffer of `room` bytes. */
 static void take_frame(struct seat *seat, uint8_t window, size_t room)
 {
-    static _Thread_local uint8_t frame[LONGEST];
+    uint8_t frame[LONGEST]; /* of this call alone: others are served before it is told */
     const struct further_device *device = device_of(seat, window);
     struct kalyubos_device_pending waits = { 0 };
     struct kalyubos_pending pending = { 0 };
