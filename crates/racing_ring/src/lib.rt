@@ -7,6 +7,7 @@
 mod descriptor;
 mod laws;
 mod packed;
+mod queue;
 mod room;
 mod split;
 mod table;
@@ -21,5 +22,6 @@ pub use packed::{
     a_list_that_is_published_meanwhile_is_taken_as_it_stands,
     a_packed_ring_that_stands_still_is_served_as_it_is,
 };
+pub use queue::RacingQueue;
 pub use room::Room;
 pub use split::RacingSplitRing;

@@ -16,10 +16,12 @@ mod table;
 mod used;
 mod walk;
 
+use crate::packed::closing::packed_wants;
 use crate::packed::walk::append_list;
+use crate::queue::RacingQueue;
 use crate::room::Room;
 use crate::walk::Table;
-use chain::{Chain, Fault, RingState};
+use chain::{Chain, Fault, RingState, Used};
 pub use laws::{
     a_list_that_is_left_alone_is_offered_at_one_moment,
     a_list_that_is_published_meanwhile_is_taken_as_it_stands,
@@ -106,18 +108,31 @@ impl RacingPackedRing {
     {
         self.next_taken() < self.size()
     }
+}
+
+impl RacingQueue for RacingPackedRing {
+    ghost use Rattle.packed_ring.specs.Kind.{IsAhead, IsTaken, entry_of};
+    ghost use Rattle.racing_ring.specs.Queue.{racing_packed};
+    ghost use Rattle.racing_ring.specs.Lying.{packed_lies};
+
+    type Token = Token;
+
+    ghost kind = { racing_packed };
+
+    ghost LiesIn = { λ m ring. LiesIn m ring.setup };
+
+    ghost entry_of = { λ token. entry_of token.id token.length };
+
+    ghost IsTaken = { IsTaken };
+
+    ghost IsAhead = { IsAhead };
+
+    ghost left_of = { λ ring. ring.pending };
 
     #[tactic(auto, using(shared_memory::proofs::Sightings::loads_none))]
-    /// Opens a service. Lists may be taken until as many places as the queue has descriptors, or more, are passed or in
-    /// flight. It reads nothing, so it never has a fault.
-    pub fn open<M: Shared>(&mut self, mem: &mut M) -> Result<(), Fault>
-        requires { LiesIn (memory (M.sightings mem.old)) self.old.setup }
-        ensures loads { Loads (M.races mem.old) (M.sightings mem.old) (M.sightings mem.new) }
-        ensures races { M.races mem.new ≡ M.races mem.old }
-        ensures fault { result_err result ≡ packed_kind.opening_fault (memory (M.sightings mem.new)) self.old }
-        ensures opened { self.new ≡ packed_kind.opened (memory (M.sightings mem.new)) self.old }
-        ensures lies { LiesIn (memory (M.sightings mem.new)) self.new.setup }
-    {
+    /// Lists may be taken until as many places as the queue has descriptors, or more, are passed or in flight. It reads
+    /// nothing, so it never has a fault.
+    fn open<M: Shared>(&mut self, mem: &mut M) -> Result<(), Fault> {
         let _ = mem;
         self.state.pending = self.size().saturating_sub(self.state.ahead);
         self.state.used_count = 0;
@@ -125,34 +140,13 @@ impl RacingPackedRing {
     }
 
     #[tactic(auto, using(crate::proofs::Lying::packed_lies_loads))]
-    /// Takes the next list, if its first descriptor is available (2.8.6): fills `chain` with its buffers, and names it by
-    /// a token. There is `None` where the service goes no further, or none is available. The place stays, so a token that
-    /// is dropped leaves its list on offer.
-    pub fn take<M: Shared>(
+    /// A list is on offer if its first descriptor is available (2.8.6).
+    fn take<M: Shared>(
         &mut self,
         mem: &mut M,
         chain: &mut Chain,
         room: &mut Room,
-    ) -> Result<Option<Token>, Fault>
-        requires { LiesIn (memory (M.sightings mem.old)) self.old.setup }
-        ensures loads { Loads (M.races mem.old) (M.sightings mem.old) (M.sightings mem.new) }
-        ensures races { M.races mem.new ≡ M.races mem.old }
-        ensures on_offer { IfOk result (λ taken. IsTold (M.sightings mem.old) (M.sightings mem.new) self.old (is_some taken)) }
-        ensures offered { IfOk result (λ taken. IfSome taken (λ token. IsOffered (M.sightings mem.old) (M.sightings mem.new) self.old chain.new (entry_of token.id token.length))) }
-        ensures taken { IfOk result (λ taken. IfSome taken (IsTaken self.old)) }
-        ensures same { OnOk result (self.new ≡ self.old) }
-
-        // A fault is that of the list on offer, and ends the service.
-        ensures met { OnErr result (0 < self.old.pending) }
-        ensures fault { IfErr result (IsFaulty (M.sightings mem.old) (M.sightings mem.new) self.old) }
-        ensures stopped { OnErr result (self.new ≡ stopped self.old) }
-
-        ensures empty { IfOk result (λ taken. IfNone taken (chain.new ≡ [])) }
-        ensures emptied { OnErr result (chain.new ≡ []) }
-        ensures good { Good (memory (M.sightings mem.new)) chain.new }
-
-        ensures lies { LiesIn (memory (M.sightings mem.new)) self.new.setup }
-    {
+    ) -> Result<Option<Token>, Fault> {
         chain.clear();
         if self.state.pending == 0 {
             return Ok(None);
@@ -177,4 +171,49 @@ impl RacingPackedRing {
             }
         }
     }
+
+    /// Len, id and flags of the used descriptor are stored at once (2.8.1, 2.8.4).
+    fn give<M: Shared>(&mut self, mem: &mut M, token: Token, used: Used) {
+        self.put_used(mem, token.id, used);
+        self.state.place = self.behind(token.length);
+        self.state.pending = self.state.pending.saturating_sub(token.length);
+        self.state.used_count += token.length;
+    }
+
+    fn launch(&mut self, token: &Token) {
+        self.state.pending = self.state.pending.saturating_sub(token.length);
+        self.state.ahead += token.length;
+    }
+
+    /// As `give` does.
+    fn land<M: Shared>(&mut self, mem: &mut M, token: Token, used: Used) {
+        let Token { id, length, .. } = token;
+        self.put_used(mem, id, used);
+        self.state.place = self.behind(length);
+        self.state.pending = 0;
+        self.state.used_count += length;
+        self.state.ahead -= length;
+    }
+
+    /// The closing write comes first (2.8.10), then the test.
+    #[tactic(auto, using(crate::proofs::Lying::packed_lies_loads))]
+    fn close<M: Shared>(&mut self, mem: &mut M) -> bool {
+        self.put_closing(mem);
+        let wanted = packed_wants(
+            mem,
+            self.state.setup.driver,
+            self.size(),
+            self.state.setup.event_idx,
+            self.first_passed(),
+            self.state.used_count,
+        );
+        self.state.shut();
+        wanted
+    }
+
+    fn shut(&mut self) {
+        self.state.shut();
+    }
+
+    ghost lies_in_range = { λ m n ring same lies. packed_lies m n ring.setup same lies };
 }

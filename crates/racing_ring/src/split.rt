@@ -13,9 +13,10 @@ mod closing;
 mod making;
 mod used;
 
+use crate::queue::RacingQueue;
 use crate::room::Room;
 use crate::walk::{Table, append_path};
-use chain::{Chain, Fault, RingState};
+use chain::{Chain, Fault, RingState, Used};
 use shared_memory::Shared;
 use split_ring::Token;
 use std::marker::Model;
@@ -85,31 +86,6 @@ impl RacingSplitRing {
         u64::from(place % self.size())
     }
 
-    #[tactic(auto, using(guest_memory::proofs::Ranges::inside_part, shared_memory::proofs::Sightings::inside_loads, crate::proofs::Lying::lies_loads))]
-    /// Opens a service. What is on offer is told by one read of the available idx (2.7.13). More than the queue has
-    /// descriptors, those in flight counted, are a `Jump`.
-    pub fn open<M: Shared>(&mut self, mem: &mut M) -> Result<(), Fault>
-        requires { LiesIn (memory (M.sightings mem.old)) self.old.setup }
-        ensures loads { Loads (M.races mem.old) (M.sightings mem.old) (M.sightings mem.new) }
-        ensures races { M.races mem.new ≡ M.races mem.old }
-        ensures jump { result_err result ≡ split_kind.opening_fault (memory (M.sightings mem.new)) self.old }
-        ensures opened { self.new ≡ split_kind.opened (memory (M.sightings mem.new)) self.old }
-        ensures lies { LiesIn (memory (M.sightings mem.new)) self.new.setup }
-    {
-        // So no address in the area passes 2^64.
-        mem.fits(self.state.setup.driver, 6);
-        let offered = mem
-            .load_u16(self.state.setup.driver + 2)
-            .wrapping_sub(self.next_taken());
-        self.state.used_count = 0;
-        if offered > self.size() - self.state.ahead {
-            self.state.pending = 0;
-            return Err(Fault::Jump);
-        }
-        self.state.pending = offered;
-        Ok(())
-    }
-
     #[tactic(auto, using(guest_memory::proofs::Ranges::inside_part))]
     /// The head in the available entry of the next chain's place (2.7.6), by one read.
     fn head<M: Shared>(&self, mem: &mut M) -> u16
@@ -125,36 +101,53 @@ impl RacingSplitRing {
         );
         mem.load_u16(self.state.setup.driver + 4 + entry)
     }
+}
+
+impl RacingQueue for RacingSplitRing {
+    ghost use Rattle.split_ring.specs.Kind.{IsAhead, IsTaken, entry_of};
+    ghost use Rattle.racing_ring.specs.Queue.{racing_split};
+    ghost use Rattle.racing_ring.specs.Lying.{split_lies};
+
+    type Token = Token;
+
+    ghost kind = { racing_split };
+
+    ghost LiesIn = { λ m ring. LiesIn m ring.setup };
+
+    ghost entry_of = { λ token. entry_of token.head };
+
+    ghost IsTaken = { IsTaken };
+
+    ghost IsAhead = { IsAhead };
+
+    ghost left_of = { λ ring. ring.pending };
+
+    #[tactic(auto, using(guest_memory::proofs::Ranges::inside_part, shared_memory::proofs::Sightings::inside_loads, crate::proofs::Lying::lies_loads))]
+    /// What is on offer is told by one read of the available idx (2.7.13). More than the queue has descriptors, those in
+    /// flight counted, are a `Jump`.
+    fn open<M: Shared>(&mut self, mem: &mut M) -> Result<(), Fault> {
+        // So no address in the area passes 2^64.
+        mem.fits(self.state.setup.driver, 6);
+        let offered = mem
+            .load_u16(self.state.setup.driver + 2)
+            .wrapping_sub(self.next_taken());
+        self.state.used_count = 0;
+        if offered > self.size() - self.state.ahead {
+            self.state.pending = 0;
+            return Err(Fault::Jump);
+        }
+        self.state.pending = offered;
+        Ok(())
+    }
 
     #[tactic(auto, using(crate::proofs::Lying::lies_loads))]
-    /// Takes the next chain, which is that of the head at its place: fills `chain` with its buffers, and names it by a
-    /// token. There is `None` where no more are on offer. The place stays, so a token that is dropped leaves its chain
-    /// on offer.
-    pub fn take<M: Shared>(
+    /// The next chain is that of the head at its place.
+    fn take<M: Shared>(
         &mut self,
         mem: &mut M,
         chain: &mut Chain,
         room: &mut Room,
-    ) -> Result<Option<Token>, Fault>
-        requires { LiesIn (memory (M.sightings mem.old)) self.old.setup }
-        ensures loads { Loads (M.races mem.old) (M.sightings mem.old) (M.sightings mem.new) }
-        ensures races { M.races mem.new ≡ M.races mem.old }
-        ensures on_offer { IfOk result (λ taken. nat_lt 0 self.old.pending ≡ is_some taken) }
-        ensures offered { IfOk result (λ taken. IfSome taken (λ token. IsOffered (M.sightings mem.old) (M.sightings mem.new) self.old chain.new (entry_of token.head))) }
-        ensures taken { IfOk result (λ taken. IfSome taken (IsTaken self.old)) }
-        ensures same { OnOk result (self.new ≡ self.old) }
-
-        // A fault is that of the chain on offer, and ends the service.
-        ensures met { OnErr result (0 < self.old.pending) }
-        ensures fault { IfErr result (IsFaulty (M.sightings mem.old) (M.sightings mem.new) self.old) }
-        ensures stopped { OnErr result (self.new ≡ stopped self.old) }
-
-        ensures empty { IfOk result (λ taken. IfNone taken (chain.new ≡ [])) }
-        ensures emptied { OnErr result (chain.new ≡ []) }
-        ensures good { Good (memory (M.sightings mem.new)) chain.new }
-
-        ensures lies { LiesIn (memory (M.sightings mem.new)) self.new.setup }
-    {
+    ) -> Result<Option<Token>, Fault> {
         chain.clear();
         if self.state.pending == 0 {
             return Ok(None);
@@ -178,4 +171,42 @@ impl RacingSplitRing {
             }
         }
     }
+
+    /// The used entry is stored first, then the used idx (2.7.8).
+    fn give<M: Shared>(&mut self, mem: &mut M, token: Token, used: Used) {
+        self.put_used(mem, token.head, used.len);
+        self.state.place = self.state.place.wrapping_add(1);
+        self.state.pending -= 1;
+        self.state.used_count += 1;
+    }
+
+    fn launch(&mut self, token: &Token) {
+        let _ = token;
+        self.state.pending -= 1;
+        self.state.ahead += 1;
+    }
+
+    /// In the order of `give`.
+    fn land<M: Shared>(&mut self, mem: &mut M, token: Token, used: Used) {
+        self.put_used(mem, token.head, used.len);
+        self.state.place = self.state.place.wrapping_add(1);
+        self.state.pending = 0;
+        self.state.used_count += 1;
+        self.state.ahead -= 1;
+    }
+
+    #[tactic(auto, using(crate::proofs::Lying::lies_loads))]
+    /// The closing writes come first (2.7.10), then the test (2.7.7).
+    fn close<M: Shared>(&mut self, mem: &mut M) -> bool {
+        self.put_closing(mem);
+        let wanted = self.wants(mem);
+        self.state.shut();
+        wanted
+    }
+
+    fn shut(&mut self) {
+        self.state.shut();
+    }
+
+    ghost lies_in_range = { λ m n ring same lies. split_lies m n ring.setup same lies };
 }

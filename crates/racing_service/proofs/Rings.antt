@@ -20,7 +20,7 @@ use Rattle.racing_ring.proofs.Taking.{walked_good}
 use Rattle.racing_ring.proofs.PackedTaking.{listed_good}
 use Rattle.racing_ring.proofs.PackedLeaving.{packed_closed_still, packed_faulty_still, packed_given_still, packed_offered_still, packed_told_still, packed_wanted_still}
 use Rattle.racing_service.specs.Queue.{racing_packed, racing_split}
-use Rattle.racing_service.specs.Lying.{split_lies}
+use Rattle.racing_ring.specs.Lying.{split_lies}
 use Rattle.racing_service.proofs.Rounds.{StandsStill}
 
 -- a number that is stored leaves the range

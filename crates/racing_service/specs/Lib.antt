@@ -1,4 +1,3 @@
-pub mod Lying
 pub mod Queue
 pub mod Device
 pub mod Storing

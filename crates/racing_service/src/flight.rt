@@ -3,8 +3,7 @@
 ghost use Rattle.std.specs.Prelude.{ℕ};
 ghost use Rattle.racing_service.specs.Flights.{FlightLaws};
 
-use crate::queue::RacingQueue;
-use racing_ring::{RacingPackedRing, RacingSplitRing};
+use racing_ring::{RacingPackedRing, RacingQueue, RacingSplitRing};
 
 /// A virtqueue of one guest that is served further while chains are in flight.
 pub trait KeepsFlights: RacingQueue {

@@ -7,7 +7,6 @@
 mod device;
 mod flight;
 mod laws;
-mod queue;
 mod service;
 mod sink;
 mod stage;
@@ -22,7 +21,7 @@ pub use laws::{
     a_settled_service_saw_nothing_more_on_offer,
     a_split_ring_that_stands_still_is_served_by_services, what_is_seen_the_same_is_left_alone,
 };
-pub use queue::RacingQueue;
+pub use racing_ring::RacingQueue;
 pub use service::{Ending, Limits, Outcome, Refused, serve};
 pub use sink::Sink;
 pub use stage::Stage;

@@ -6,10 +6,9 @@ ghost use Rattle.shared_memory.specs.Sightings.{memory};
 ghost use Rattle.racing_service.specs.Service.{IsRacingService, IsRefusedService, RunsAs, RunsUpTo, ServesAs, ServesUpTo, ending_of, progress_of, standing_at};
 
 use crate::device::RacingDevice;
-use crate::queue::RacingQueue;
 use crate::stage::Stage;
 use chain::{Budget, Chain, Fault, Progress};
-use racing_ring::Room;
+use racing_ring::{RacingQueue, Room};
 use shared_memory::Shared;
 
 /// How much one service may do, so that a driver which offers chains without end can't hold its device for ever.

@@ -5,8 +5,8 @@ ghost use Rattle.std.specs.Result.{result_err};
 ghost use Rattle.shared_memory.specs.Sightings.{Loads, memory};
 ghost use Rattle.racing_service.specs.Service.{fault_at, opened_at};
 
-use crate::queue::RacingQueue;
 use chain::Fault;
+use racing_ring::RacingQueue;
 use shared_memory::Shared;
 
 /// Where a service begins.

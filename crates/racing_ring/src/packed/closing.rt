@@ -1,13 +1,11 @@
-//! The end of a service, and whether the driver is to be notified.
+//! The closing write, and whether the driver is to be notified.
 
 ghost use Rattle.std.specs.Prelude.{◌≡◌, ◌↔◌, ◌+◌, ◌*◌, ◌%◌, ◌^◌, ◌<◌, ◌≤◌, ℕ, IsTrue, IsSome, IfSome};
 ghost use Rattle.guest_memory.specs.Memory.{Memory, Inside, num};
-ghost use Rattle.chain.specs.Setup.{shut};
 ghost use Rattle.suppression.specs.Packed.{IsEventPlace, PackedWants};
 ghost use Rattle.packed_ring.specs.Ring.{LiesIn};
 ghost use Rattle.packed_ring.specs.Kind.{first_passed};
 ghost use Rattle.shared_memory.specs.Sightings.{Loads, Stores, memory};
-ghost use Rattle.racing_ring.specs.Packed.{IsClosed};
 
 use crate::packed::RacingPackedRing;
 use byteorder::{ByteOrder, LittleEndian};
@@ -37,38 +35,9 @@ struct Events {
 }
 
 impl RacingPackedRing {
-    /// Closes a service, and answers whether the driver wants to be notified of the places passed since the last `open`.
-    /// The closing write comes first (2.8.10), then the test.
-    #[tactic(auto, using(crate::proofs::Lying::packed_lies_loads))]
-    pub fn close<M: Shared>(&mut self, mem: &mut M) -> bool
-        requires { LiesIn (memory (M.sightings mem.old)) self.old.setup }
-        ensures closed { IsClosed (M.races mem.old) (M.sightings mem.old) (M.sightings mem.new) self.old result }
-        ensures races { M.races mem.new ≡ M.races mem.old }
-        ensures shut { self.new ≡ shut self.old }
-        ensures lies { LiesIn (memory (M.sightings mem.new)) self.new.setup }
-    {
-        self.put_closing(mem);
-        let wanted = packed_wants(
-            mem,
-            self.state.setup.driver,
-            self.size(),
-            self.state.setup.event_idx,
-            self.first_passed(),
-            self.state.used_count,
-        );
-        self.state.shut();
-        wanted
-    }
-
-    /// Ends a service in which no list was taken, without closing writes: those of the service before stand.
-    pub fn shut(&mut self)
-        ensures { self.new ≡ shut self.old }
-    {
-        self.state.shut();
-    }
-
+    #[tactic(auto, using(crate::proofs::Lying::packed_lies_stores))]
     /// Stores a device event suppression structure of 0: the driver is to notify of every list (2.8.10).
-    fn put_closing<M: Shared>(&self, mem: &mut M)
+    pub(crate) fn put_closing<M: Shared>(&self, mem: &mut M)
         requires { LiesIn (memory (M.sightings mem.old)) self.now.setup }
         ensures closing { Stores (M.races mem.old) (M.sightings mem.old) (M.sightings mem.new) self.now.setup.device 4 0 }
         ensures lies { LiesIn (memory (M.sightings mem.new)) self.now.setup }
@@ -78,7 +47,7 @@ impl RacingPackedRing {
     }
 
     /// The first of the places passed since the last `open`.
-    fn first_passed(&self) -> u16
+    pub(crate) fn first_passed(&self) -> u16
         ensures value { result ≡ first_passed self.now }
         ensures below { result < 2 * self.now.setup.size }
     {
@@ -89,7 +58,7 @@ impl RacingPackedRing {
 
 /// Whether the driver of a queue of size `n` wants a notification of the `passed` places from place `from` on, skipped ones
 /// included, by one copy of its event suppression structure (2.8.10).
-fn packed_wants<M: Shared>(
+pub(crate) fn packed_wants<M: Shared>(
     mem: &mut M,
     driver_area: u64,
     n: u16,

@@ -1,10 +1,8 @@
-//! The calls by which a list is used.
+//! What is stored of a used list.
 
 ghost use Rattle.std.specs.Prelude.{◌≡◌, ◌+◌, ◌*◌, ◌<◌, ◌≤◌, ◌^◌};
 ghost use Rattle.guest_memory.specs.Memory.{Inside};
-ghost use Rattle.chain.specs.Setup.{launched};
 ghost use Rattle.packed_ring.specs.Ring.{LiesIn, place_behind, used_addr, used_flags, used_head, wrap_counter};
-ghost use Rattle.packed_ring.specs.Kind.{IsAhead, IsTaken, landed, past};
 ghost use Rattle.shared_memory.specs.Sightings.{memory};
 ghost use Rattle.racing_ring.specs.Packed.{IsGiven, used_word};
 
@@ -12,58 +10,12 @@ use crate::packed::RacingPackedRing;
 use crate::packed::walk::{AVAIL, USED};
 use chain::Used;
 use indirect::WRITE;
-use packed_ring::Token;
 use shared_memory::Shared;
 
 impl RacingPackedRing {
-    /// Gives the list that was taken last back to the driver as used: len, id and flags of its used descriptor are stored at
-    /// once (2.8.1, 2.8.4).
-    pub fn give<M: Shared>(&mut self, mem: &mut M, token: Token, used: Used)
-        requires lies { LiesIn (memory (M.sightings mem.old)) self.old.setup }
-        requires taken { IsTaken self.old token }
-        ensures given { IsGiven (M.races mem.old) (M.sightings mem.old) (M.sightings mem.new) self.old token.id used.len used.wrote }
-        ensures races { M.races mem.new ≡ M.races mem.old }
-        ensures past { self.new ≡ past self.old token.length }
-        ensures lies { LiesIn (memory (M.sightings mem.new)) self.new.setup }
-    {
-        self.put_used(mem, token.id, used);
-        self.state.place = self.behind(token.length);
-        self.state.pending = self.state.pending.saturating_sub(token.length);
-        self.state.used_count += token.length;
-    }
-
-    /// Leaves the list that was taken last in flight, and goes on behind it. The driver isn't told of it until `land` gives
-    /// it back by its token.
-    pub fn launch(&mut self, token: &Token)
-        requires { IsTaken self.old token.now }
-        ensures launched { self.new ≡ launched token.now.length self.old }
-        ensures ahead { IsAhead self.new token.now }
-    {
-        self.state.pending = self.state.pending.saturating_sub(token.length);
-        self.state.ahead += token.length;
-    }
-
-    /// Gives a list in flight back to the driver as used, whichever it is, as `give` does. The service takes no
-    /// more lists; `close` ends it.
-    pub fn land<M: Shared>(&mut self, mem: &mut M, token: Token, used: Used)
-        requires lies { LiesIn (memory (M.sightings mem.old)) self.old.setup }
-        requires ahead { IsAhead self.old token }
-        ensures given { IsGiven (M.races mem.old) (M.sightings mem.old) (M.sightings mem.new) self.old token.id used.len used.wrote }
-        ensures races { M.races mem.new ≡ M.races mem.old }
-        ensures landed { self.new ≡ landed self.old token.length }
-        ensures lies { LiesIn (memory (M.sightings mem.new)) self.new.setup }
-    {
-        let Token { id, length, .. } = token;
-        self.put_used(mem, id, used);
-        self.state.place = self.behind(length);
-        self.state.pending = 0;
-        self.state.used_count += length;
-        self.state.ahead -= length;
-    }
-
     /// Stores the used descriptor of the ring's place: its len, its id and its flags at once.
-    #[tactic(auto, using(guest_memory::proofs::Ranges::inside_part))]
-    fn put_used<M: Shared>(&self, mem: &mut M, id: u16, used: Used)
+    #[tactic(auto, using(guest_memory::proofs::Ranges::inside_part, crate::proofs::Lying::packed_lies_stores))]
+    pub(crate) fn put_used<M: Shared>(&self, mem: &mut M, id: u16, used: Used)
         requires { LiesIn (memory (M.sightings mem.old)) self.now.setup }
         ensures given { IsGiven (M.races mem.old) (M.sightings mem.old) (M.sightings mem.new) self.now id used.len used.wrote }
         ensures lies { LiesIn (memory (M.sightings mem.new)) self.now.setup }
@@ -96,7 +48,7 @@ impl RacingPackedRing {
     }
 
     /// The place so many descriptors behind the ring's.
-    fn behind(&self, length: u16) -> u16
+    pub(crate) fn behind(&self, length: u16) -> u16
         requires { length ≤ self.now.setup.size }
         ensures value { result ≡ place_behind self.now length }
         ensures below { result < 2 * self.now.setup.size }

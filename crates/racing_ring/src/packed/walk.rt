@@ -35,6 +35,7 @@ struct Copied {
     flags: u16,
 }
 
+#[tactic(auto, using(crate::proofs::Listing::loads_on))]
 /// Fills the empty chain with the buffers of the list that begins at a position (2.8.6). Each descriptor is read once;
 /// there is `None` where the first isn't available at this wrap counter.
 pub(crate) fn append_list<M: Shared>(

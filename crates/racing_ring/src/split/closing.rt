@@ -1,12 +1,11 @@
-//! The end of a service, and whether the driver is to be notified.
+//! The closing writes, and whether the driver is to be notified.
 
 ghost use Rattle.std.specs.Prelude.{◌≡◌, ◌↔◌, IsTrue};
-ghost use Rattle.chain.specs.Setup.{shut};
 ghost use Rattle.suppression.specs.Split.{SplitWants};
 ghost use Rattle.split_ring.specs.Ring.{LiesIn};
 ghost use Rattle.split_ring.specs.Kind.{first_passed};
 ghost use Rattle.shared_memory.specs.Sightings.{Loads, memory};
-ghost use Rattle.racing_ring.specs.Split.{IsClosed, IsClosing};
+ghost use Rattle.racing_ring.specs.Split.{IsClosing};
 
 use crate::split::RacingSplitRing;
 use shared_memory::Shared;
@@ -19,31 +18,9 @@ const VIRTQ_AVAIL_F_NO_INTERRUPT: u16 = 1;
 const IDX_MODULUS: u32 = 1 << 16;
 
 impl RacingSplitRing {
-    #[tactic(auto, using(crate::proofs::Lying::lies_loads))]
-    /// Closes a service, and answers whether the driver wants to be notified of the places passed since the last `open`.
-    /// The closing writes come first (2.7.10), then the test (2.7.7).
-    pub fn close<M: Shared>(&mut self, mem: &mut M) -> bool
-        requires { LiesIn (memory (M.sightings mem.old)) self.old.setup }
-        ensures closed { IsClosed (M.races mem.old) (M.sightings mem.old) (M.sightings mem.new) self.old result }
-        ensures races { M.races mem.new ≡ M.races mem.old }
-        ensures shut { self.new ≡ shut self.old }
-        ensures lies { LiesIn (memory (M.sightings mem.new)) self.new.setup }
-    {
-        self.put_closing(mem);
-        let wanted = self.wants(mem);
-        self.state.shut();
-        wanted
-    }
-
-    /// Ends a service in which no chain was taken, without closing writes: those of the service before stand.
-    pub fn shut(&mut self)
-        ensures { self.new ≡ shut self.old }
-    {
-        self.state.shut();
-    }
-
+    #[tactic(auto, using(crate::proofs::Lying::lies_stores))]
     /// Stores used flags of 0 and, where VIRTIO_F_EVENT_IDX was negotiated, avail_event (2.7.10).
-    fn put_closing<M: Shared>(&self, mem: &mut M)
+    pub(crate) fn put_closing<M: Shared>(&self, mem: &mut M)
         requires { LiesIn (memory (M.sightings mem.old)) self.now.setup }
         ensures closing { IsClosing (M.races mem.old) (M.sightings mem.old) (M.sightings mem.new) self.now }
         ensures lies { LiesIn (memory (M.sightings mem.new)) self.now.setup }
@@ -60,7 +37,7 @@ impl RacingSplitRing {
 
     #[tactic(auto, using(guest_memory::proofs::Ranges::inside_part, shared_memory::proofs::Sightings::loads_none))]
     /// Whether the driver wants a notification, by one read of used_event or of the flags.
-    fn wants<M: Shared>(&self, mem: &mut M) -> bool
+    pub(crate) fn wants<M: Shared>(&self, mem: &mut M) -> bool
         requires { LiesIn (memory (M.sightings mem.old)) self.now.setup }
         ensures wants { IsTrue result ↔ SplitWants (memory (M.sightings mem.new)) self.now.setup.driver self.now.setup.size self.now.setup.event_idx (first_passed self.now) self.now.used_count }
         ensures loads { Loads (M.races mem.old) (M.sightings mem.old) (M.sightings mem.new) }

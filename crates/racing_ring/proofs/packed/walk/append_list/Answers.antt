@@ -91,27 +91,3 @@ loop-count-preserved g c =
       below = next_below c.args.table.size c.args.first c.loop-count.count c.in-Some.next c.requires.first list.at;
       list = list;
     }
-
-pub returns-then-is_withheld-clause-loads : goal.returns-then-is_withheld-clause-loads
-returns-then-is_withheld-clause-loads g c =
-    loads_on c.loop-count.invariant.races c.loop-count.invariant.loads c.copy_at-copied.ensures.loads
-
-pub returns-in_err-push-clause-loads : goal.returns-in_err-push-clause-loads
-returns-in_err-push-clause-loads g c =
-    loads_on c.loop-count.invariant.races c.loop-count.invariant.loads c.copy_at-copied.ensures.loads
-
-pub returns-in-None-clause-loads : goal.returns-in-None-clause-loads
-returns-in-None-clause-loads g c =
-    loads_on c.loop-count.invariant.races c.loop-count.invariant.loads c.copy_at-copied.ensures.loads
-
-pub returns-in_err-append_table-clause-loads : goal.returns-in_err-append_table-clause-loads
-returns-in_err-append_table-clause-loads g c =
-    let i = c.loop-count.invariant in
-    loads_on (c.copy_at-copied.ensures.races ∙ i.races) (loads_on i.races i.loads c.copy_at-copied.ensures.loads)
-    c.append_table.ensures.loads
-
-pub returns-then-descriptor-clause-loads : goal.returns-then-descriptor-clause-loads
-returns-then-descriptor-clause-loads g c =
-    let i = c.loop-count.invariant in
-    loads_on (c.copy_at-copied.ensures.races ∙ i.races) (loads_on i.races i.loads c.copy_at-copied.ensures.loads)
-    c.append_table.ensures.loads

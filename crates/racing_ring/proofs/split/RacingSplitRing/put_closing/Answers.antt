@@ -19,11 +19,3 @@ store_u16-requires-2 g c =
     lies_stores (g.M.Shared.races c.args.mem.now) (g.M.Shared.sightings c.args.mem.now)
     (g.M.Shared.sightings c.store_u16.new.self) _ _ _ setup c.store_u16.ensures.stores lies in
     inside_part after.device (omega arith) (omega (arith, c.from-entries.ensures))
-
-pub returns-clause-lies : goal.returns-clause-lies
-returns-clause-lies g c =
-    let setup = c.args.self.now.setup in
-    lies_stores (g.M.Shared.races c.store_u16.new.self) (g.M.Shared.sightings c.store_u16.new.self)
-    (g.M.Shared.sightings c.store_u16-2.new.self) _ _ _ setup c.store_u16-2.ensures.stores
-    (lies_stores (g.M.Shared.races c.args.mem.now) (g.M.Shared.sightings c.args.mem.now)
-    (g.M.Shared.sightings c.store_u16.new.self) _ _ _ setup c.store_u16.ensures.stores c.requires)

@@ -9,8 +9,3 @@ store_u64-requires g c =
     let m = memory (g.M.Shared.sightings c.args.mem.now) in
     let lies : LiesIn m ring.setup = rw c.self.view_is c.requires in
     entry_inside m ring.setup c.entry_at-offset.result lies (rw c.self.view_is c.entry_at-offset.ensures.below)
-
-pub returns-clause-lies : goal.returns-clause-lies
-returns-clause-lies g c =
-    lies_stores (g.M.Shared.races c.args.mem.now) (g.M.Shared.sightings c.args.mem.now)
-    (g.M.Shared.sightings c.store_u64.new.self) _ _ _ c.args.self.now.setup c.store_u64.ensures.stores c.requires

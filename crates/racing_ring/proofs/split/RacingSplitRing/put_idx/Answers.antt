@@ -11,11 +11,6 @@ store_u16-requires g c =
     rw c.self.view_is c.requires in
     inside_part lies.device (omega arith) (omega arith)
 
-pub returns-clause-lies : goal.returns-clause-lies
-returns-clause-lies g c =
-    lies_stores (g.M.Shared.races c.args.mem.now) (g.M.Shared.sightings c.args.mem.now)
-    (g.M.Shared.sightings c.store_u16.new.self) _ _ _ c.args.self.now.setup c.store_u16.ensures.stores c.requires
-
 pub fits-requires : goal.fits-requires
 fits-requires g c =
     let lies : LiesIn (memory (g.M.Shared.sightings c.args.mem.now)) c.self.inside.state.setup =

@@ -7,7 +7,7 @@ use Rattle.chain.specs.Setup as setups
 use Rattle.split_ring.specs.Ring as split
 use Rattle.packed_ring.specs.Ring as packed
 
-areas_lie : (m n : Memory) (setup : Setup) (areas : Areas) → SameRange m n → setups.LiesIn m setup areas
+pub areas_lie : (m n : Memory) (setup : Setup) (areas : Areas) → SameRange m n → setups.LiesIn m setup areas
     → setups.LiesIn n setup areas
 areas_lie m n setup areas same lies = record {
   desc = inside_same m n setup.desc areas.desc same lies.desc;

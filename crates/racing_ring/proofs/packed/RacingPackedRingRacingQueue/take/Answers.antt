@@ -2,10 +2,10 @@ use Rattle.std.proofs.Common.{◌+◌, rules}
 use Rattle.packed_ring.specs.Kind.{entry_of}
 use Rattle.racing_ring.proofs.Lying.{packed_lies_loads}
 use Rattle.racing_ring.proofs.PackedTaking.{listed_good, told_none}
-use Rattle.racing_ring.proofs.packed.RacingPackedRing.take.Goals as goal
+use Rattle.racing_ring.proofs.packed.RacingPackedRingRacingQueue.take.Goals as goal
 
-pub returns-then-self-eq0-clause-on_offer : goal.returns-then-self-eq0-clause-on_offer
-returns-then-self-eq0-clause-on_offer g c =
+pub returns-then-self-eq0-clause-told : goal.returns-then-self-eq0-clause-told
+returns-then-self-eq0-clause-told g c =
     told_none (g.M.Shared.sightings c.args.mem.now) c.args.self.now (rw c.self.view_is at c.if-self-eq0.true)
 
 pub returns-in-Ok-Some-clause-good : goal.returns-in-Ok-Some-clause-good

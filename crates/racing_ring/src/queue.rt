@@ -1,15 +1,15 @@
 //! What a virtqueue of a racing guest is to a service: the same calls, whatever its layout.
 
-ghost use Rattle.std.specs.Prelude.{◌≡◌, ℕ, ◌<◌, is_some, IfSome, IfOk, IfErr, OnOk, OnErr};
+ghost use Rattle.std.specs.Prelude.{◌≡◌, ℕ, ◌<◌, [], is_some, IfSome, IfNone, IfOk, IfErr, OnOk, OnErr};
 ghost use Rattle.std.specs.Result.{result_err};
 ghost use Rattle.guest_memory.specs.Memory.{Memory, SameRange};
 ghost use Rattle.chain.specs.Buffers.{Good};
 ghost use Rattle.chain.specs.Service.{Entry};
 ghost use Rattle.shared_memory.specs.Sightings.{Loads, memory};
-ghost use Rattle.racing_service.specs.Queue.{RacingKind};
+ghost use Rattle.racing_ring.specs.Queue.{RacingKind};
 
+use crate::room::Room;
 use chain::{Chain, Fault, Used};
-use racing_ring::{RacingPackedRing, RacingSplitRing, Room};
 use shared_memory::Shared;
 
 /// A virtqueue of one guest, which may write its memory during each call. The queue's areas lie in that memory.
@@ -63,6 +63,8 @@ pub trait RacingQueue {
         // A fault is that of the chain on offer, and ends the service.
         ensures faulty { IfErr result (kind.IsFaulty (M.sightings mem.old) (M.sightings mem.new) self.old) }
         ensures stopped { OnErr result (self.new ≡ kind.still.stopped self.old) }
+        ensures empty { IfOk result (λ taken. IfNone taken (chain.new ≡ [])) }
+        ensures emptied { OnErr result (chain.new ≡ []) }
         ensures good { Good (memory (M.sightings mem.new)) chain.new }
         ensures lies { LiesIn (memory (M.sightings mem.new)) self.new };
 
@@ -109,118 +111,4 @@ pub trait RacingQueue {
 
     // in a memory of the same range they lie too
     ghost lies_in_range: { (m n : Memory) (queue : Self) → SameRange m n → LiesIn m queue → LiesIn n queue };
-}
-
-impl RacingQueue for RacingSplitRing {
-    ghost use Rattle.split_ring.specs.Ring.{LiesIn};
-    ghost use Rattle.split_ring.specs.Kind.{IsAhead, IsTaken, entry_of};
-    ghost use Rattle.racing_service.specs.Queue.{racing_split};
-    ghost use Rattle.racing_service.specs.Lying.{split_lies};
-
-    type Token = split_ring::Token;
-
-    ghost kind = { racing_split };
-
-    ghost LiesIn = { λ m ring. LiesIn m ring.setup };
-
-    ghost entry_of = { λ token. entry_of token.head };
-
-    ghost IsTaken = { IsTaken };
-
-    ghost IsAhead = { IsAhead };
-
-    ghost left_of = { λ ring. ring.pending };
-
-    fn open<M: Shared>(&mut self, mem: &mut M) -> Result<(), Fault> {
-        RacingSplitRing::open(self, mem)
-    }
-
-    #[inline(always)]
-    fn take<M: Shared>(
-        &mut self,
-        mem: &mut M,
-        chain: &mut Chain,
-        room: &mut Room,
-    ) -> Result<Option<split_ring::Token>, Fault> {
-        RacingSplitRing::take(self, mem, chain, room)
-    }
-
-    fn give<M: Shared>(&mut self, mem: &mut M, token: split_ring::Token, used: Used) {
-        RacingSplitRing::give(self, mem, token, used);
-    }
-
-    fn launch(&mut self, token: &split_ring::Token) {
-        RacingSplitRing::launch(self, token);
-    }
-
-    fn land<M: Shared>(&mut self, mem: &mut M, token: split_ring::Token, used: Used) {
-        RacingSplitRing::land(self, mem, token, used);
-    }
-
-    fn close<M: Shared>(&mut self, mem: &mut M) -> bool {
-        RacingSplitRing::close(self, mem)
-    }
-
-    fn shut(&mut self) {
-        RacingSplitRing::shut(self);
-    }
-
-    ghost lies_in_range = { λ m n ring same lies. split_lies m n ring.setup same lies };
-}
-
-impl RacingQueue for RacingPackedRing {
-    ghost use Rattle.packed_ring.specs.Ring.{LiesIn};
-    ghost use Rattle.packed_ring.specs.Kind.{IsAhead, IsTaken, entry_of};
-    ghost use Rattle.racing_service.specs.Queue.{racing_packed};
-    ghost use Rattle.racing_service.specs.Lying.{packed_lies};
-
-    type Token = packed_ring::Token;
-
-    ghost kind = { racing_packed };
-
-    ghost LiesIn = { λ m ring. LiesIn m ring.setup };
-
-    ghost entry_of = { λ token. entry_of token.id token.length };
-
-    ghost IsTaken = { IsTaken };
-
-    ghost IsAhead = { IsAhead };
-
-    ghost left_of = { λ ring. ring.pending };
-
-    fn open<M: Shared>(&mut self, mem: &mut M) -> Result<(), Fault> {
-        RacingPackedRing::open(self, mem)
-    }
-
-    #[inline(always)]
-    fn take<M: Shared>(
-        &mut self,
-        mem: &mut M,
-        chain: &mut Chain,
-        room: &mut Room,
-    ) -> Result<Option<packed_ring::Token>, Fault> {
-        RacingPackedRing::take(self, mem, chain, room)
-    }
-
-    fn give<M: Shared>(&mut self, mem: &mut M, token: packed_ring::Token, used: Used) {
-        RacingPackedRing::give(self, mem, token, used);
-    }
-
-    fn launch(&mut self, token: &packed_ring::Token) {
-        RacingPackedRing::launch(self, token);
-    }
-
-    fn land<M: Shared>(&mut self, mem: &mut M, token: packed_ring::Token, used: Used) {
-        RacingPackedRing::land(self, mem, token, used);
-    }
-
-    fn close<M: Shared>(&mut self, mem: &mut M) -> bool {
-        RacingPackedRing::close(self, mem)
-    }
-
-    fn shut(&mut self) {
-        RacingPackedRing::shut(self);
-    }
-
-    ghost lies_in_range = { λ m n ring same lies. packed_lies m n ring.setup same lies };
 }
