@@ -23,9 +23,6 @@ use Rattle.racing_console.specs.Output.{IsPutOut, NoRoom}
 
 -- ---- what is put out
 
-pub none_out : (s : Sightings) (out : List ℕ) → IsPutOut s s [] out out
-none_out s out = record { bytes = []; seen = tt; out = sym (append-nil out) }
-
 -- some bytes, and others behind them
 pub out_more : (races : Bool) (a b c : Sightings) (xs ys first mid last : List ℕ) → Loads races a b → Loads races b c
     → IsPutOut a b xs first mid → IsPutOut b c ys mid last → IsPutOut a c (xs ++ ys) first last
@@ -67,15 +64,6 @@ pub record HasPutOut (races : Bool) (old now : Sightings) (addr len done : ℕ) 
   pub put : IsPutOut old now (range_with_len addr done) before after
   pub holds : len ≤ done + room
   pub loads : Loads races old now
-
-pub none_done : (races : Bool) (s : Sightings) (addr len : ℕ) (out : List ℕ) (room : ℕ) → len ≤ room
-    → HasPutOut races s s addr len 0 out out room
-none_done races s addr len out room fits = record {
-  within = omega arith;
-  put = none_out s out;
-  holds = omega (arith, fits);
-  loads = loads_none races s;
-}
 
 -- the next bytes lie in the memory
 pub next_inside : (races : Bool) (old now : Sightings) (addr len done n : ℕ) → Loads races old now → Inside (memory old) addr len
@@ -141,14 +129,6 @@ part_of_len buffers n =
     let whole : len_of false (take n buffers) + len_of false (drop n buffers) ≡ len_of false buffers =
     sym (len_of-append false (take n buffers) (drop n buffers)) ∙ ap (len_of false) (take-append-drop n buffers) in
     omega (arith, whole)
-
-pub no_buffer : (races : Bool) (s : Sightings) (buffers : List Buffer) (out : List ℕ) (room : ℕ) → len_of false buffers ≤ room
-    → HasPutBuffers races s s buffers 0 out out room
-no_buffer races s buffers out room fits = record {
-  put = none_out s out;
-  holds = omega (arith, fits);
-  loads = loads_none races s;
-}
 
 module _ (races : Bool) (old now : Sightings) (buffers : List Buffer) (index : ℕ) (before after : List ℕ) (room : ℕ)
     (blank : Buffer) (h : HasPutBuffers races old now buffers index before after room) (below : index < length buffers) where

@@ -1,7 +1,6 @@
 -- Pending input that is stored in a chain, byte after byte.
-use Rattle.std.proofs.Common.{◌≡◌, ◌∙◌, ℕ, ◌+◌, ◌-◌, ◌^◌, ◌<◌, ◌≤◌, nat_lt, Bool, true, false, Some, None, List, [], ◌∷◌, ◌++◌, length, map, take, drop, replicate, refl, sym, ap, arith, length-append}
+use Rattle.std.proofs.Common.{◌≡◌, ◌∙◌, ℕ, ◌+◌, ◌-◌, ◌^◌, ◌<◌, ◌≤◌, nat_lt, Bool, true, false, Some, None, List, ◌++◌, length, map, take, drop, replicate, refl, sym, ap, arith, length-append}
 use Rattle.std.specs.Prelude.{min}
-use Rattle.std.proofs.lemmas.Bool.{lt-ltb}
 use Rattle.std.proofs.lemmas.List.{drop_min, length-take}
 use Rattle.std.proofs.Math.Seq.{take-add}
 use Rattle.guest_memory.specs.Memory.{Memory}
@@ -12,17 +11,12 @@ use Rattle.chain.specs.Service.{Given}
 use Rattle.chain.proofs.Directions.{All-segments_of, len_of-le, length-addresses_of}
 use Rattle.shared_memory.specs.Sightings.{Sightings, memory}
 use Rattle.shared_memory.proofs.Sightings.{loads_none}
-use Rattle.console_device.specs.Device.{is_any, receive}
+use Rattle.console_device.specs.Device.{receive}
 use Rattle.console_device.proofs.Receiving.{receive_does, take-append, take_fewer}
 use Rattle.racing_service.specs.Device.{DoesRaced}
 use Rattle.racing_service.specs.Storing.{StoresEach, StoresSome}
 use Rattle.racing_service.proofs.Seeing.{segments_seen}
 use Rattle.racing_service.proofs.Rows.{each_join, first_some}
-
--- whether any byte is pending
-pub some_pending : (pending : List ℕ) → nat_lt 0 (length pending) ≡ is_any pending
-some_pending [] = refl
-some_pending (x ∷ pending) = lt-ltb 0 (length (x ∷ pending)) (omega arith)
 
 -- ---- the two parts of the ring
 

@@ -26,8 +26,7 @@ pub(crate) fn put_buffers<M: Shared, O: Outlet>(
     ensures put { IsPutOut (M.sightings mem.old) (M.sightings mem.new) (addresses_of false chain.now)
         (O.bytes out.old) (O.bytes out.new) }
     ensures limit { O.limit out.new ≡ O.limit out.old }
-    ensures loads { Loads (M.races mem.old) (M.sightings mem.old) (M.sightings mem.new) }
-    ensures races { M.races mem.new ≡ M.races mem.old }
+    ensures loads { Loads M.races (M.sightings mem.old) (M.sightings mem.new) }
 {
     let buffers = chain.buffers();
     for buffer in buffers {
@@ -45,8 +44,7 @@ fn put_segment<M: Shared, O: Outlet>(mem: &mut M, segment: Segment, piece: &mut 
     ensures put { IsPutOut (M.sightings mem.old) (M.sightings mem.new) (addresses segment) (O.bytes out.old) (O.bytes out.new) }
     ensures room { O.room out.old ≤ O.room out.new + segment.len }
     ensures limit { O.limit out.new ≡ O.limit out.old }
-    ensures loads { Loads (M.races mem.old) (M.sightings mem.old) (M.sightings mem.new) }
-    ensures races { M.races mem.new ≡ M.races mem.old }
+    ensures loads { Loads M.races (M.sightings mem.old) (M.sightings mem.new) }
 {
     // What it ensures: the segment ends at 2^64 at most.
     mem.fits(segment.addr, u64::from(segment.len));
@@ -66,8 +64,7 @@ fn put_copy<M: Shared, O: Outlet>(mem: &mut M, addr: u64, piece: &mut [u8], out:
         (O.bytes out.old) (O.bytes out.new) }
     ensures room { O.room out.old ≤ O.room out.new + length piece.old }
     ensures limit { O.limit out.new ≡ O.limit out.old }
-    ensures loads { Loads (M.races mem.old) (M.sightings mem.old) (M.sightings mem.new) }
-    ensures races { M.races mem.new ≡ M.races mem.old }
+    ensures loads { Loads M.races (M.sightings mem.old) (M.sightings mem.new) }
 {
     mem.load(addr, piece);
     out.append(piece);

@@ -75,9 +75,8 @@ fn store_input<M: Shared, A: Allocator>(
 ) -> usize
     requires good { Good (memory (M.sightings mem.old)) chain.now }
     ensures count { result ≡ length (take (length (writable_of chain.now)) console.now.pending) }
-    ensures stored { StoresEach (M.races mem.old) (M.sightings mem.old) (M.sightings mem.new)
+    ensures stored { StoresEach M.races (M.sightings mem.old) (M.sightings mem.new)
         (take result (writable_of chain.now)) (take (length (writable_of chain.now)) console.now.pending) }
-    ensures races { M.races mem.new ≡ M.races mem.old }
 {
     let places = chain.writable_len() as usize;
     let (front, back) = console.pending();

@@ -38,14 +38,13 @@ pub fn serve_transmit<Q: RacingQueue, M: Shared, O: Outlet>(
     room: &mut Room,
 ) -> Result<Outcome, Full>
     requires queue { Q.LiesIn (memory (M.sightings mem.old)) queue.old }
-    ensures service { IfOk result (λ outcome. IsRacingService Q.kind (transmit_within (O.limit out.old)) (M.races mem.old) First limits.rounds
+    ensures service { IfOk result (λ outcome. IsRacingService Q.kind (transmit_within (O.limit out.old)) M.races First limits.rounds
         (standing_at (M.sightings mem.old) queue.old (O.bytes out.old) limits.budget)
         (standing_at (M.sightings mem.new) queue.new (O.bytes out.new) outcome.left) outcome.ending outcome.wanted) }
-    ensures full { IfErr result (λ full. IsFull Q.kind (O.limit out.old) (M.races mem.old) limits.rounds
+    ensures full { IfErr result (λ full. IsFull Q.kind (O.limit out.old) M.races limits.rounds
         (standing_at (M.sightings mem.old) queue.old (O.bytes out.old) limits.budget)
         (standing_at (M.sightings mem.new) queue.new (O.bytes out.new) full.left) full.wanted) }
     ensures limit { O.limit out.new ≡ O.limit out.old }
-    ensures races { M.races mem.new ≡ M.races mem.old }
     ensures lies { Q.LiesIn (memory (M.sightings mem.new)) queue.new }
 {
     match serve(device, out, mem, queue, Stage::First, limits, chain, room) {
@@ -71,11 +70,10 @@ pub fn serve_receive<Q: RacingQueue, M: Shared, A: Allocator>(
     room: &mut Room,
 ) -> Outcome
     requires queue { Q.LiesIn (memory (M.sightings mem.old)) queue.old }
-    ensures service { IsRacingService Q.kind receive (M.races mem.old) First limits.rounds
+    ensures service { IsRacingService Q.kind receive M.races First limits.rounds
         (standing_at (M.sightings mem.old) queue.old console.old.pending limits.budget)
         (standing_at (M.sightings mem.new) queue.new console.new.pending result.left) result.ending result.wanted }
     ensures size { console.new ≡ record console.old { pending = console.new.pending } }
-    ensures races { M.races mem.new ≡ M.races mem.old }
     ensures lies { Q.LiesIn (memory (M.sightings mem.new)) queue.new }
 {
     let served = serve(

@@ -86,8 +86,7 @@ fn put_out<M: Shared, O: Outlet>(
     ensures refused { OnErr result (MayRefuse (O.limit out.old) (length (O.bytes out.old) + len_of false chain.now)) }
     ensures unread { OnErr result (M.sightings mem.new ≡ M.sightings mem.old) }
     ensures limit { O.limit out.new ≡ O.limit out.old }
-    ensures loads { Loads (M.races mem.old) (M.sightings mem.old) (M.sightings mem.new) }
-    ensures races { M.races mem.new ≡ M.races mem.old }
+    ensures loads { Loads M.races (M.sightings mem.old) (M.sightings mem.new) }
 {
     out.make_room(chain.readable_len())?;
     put_buffers(mem, chain, piece, out);

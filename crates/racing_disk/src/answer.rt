@@ -32,9 +32,8 @@ impl RacingDisk {
         requires left { WasLeft self.now.device chain.now request room.old }
         requires asks { asks_image request ≡ false }
         ensures answered { (readable : List ℕ) → IsLeft self.now.device readable chain.now request room.old →
-            IsAnsweredIn Q.kind self.now.device (M.races mem.old) (M.sightings mem.old) (M.sightings mem.new) readable chain.now
+            IsAnsweredIn Q.kind self.now.device M.races (M.sightings mem.old) (M.sightings mem.new) readable chain.now
             (Q.entry_of token) result queue.old queue.new }
-        ensures races { M.races mem.new ≡ M.races mem.old }
         ensures lies { Q.LiesIn (memory (M.sightings mem.new)) queue.new }
     {
         // What it ensures: there are fewer than 2^32 bytes.
@@ -57,9 +56,8 @@ impl RacingDisk {
         requires good { Good (memory (M.sightings mem.old)) chain.now }
         requires left { WasLeft self.now.device chain.now request room.old }
         requires asks { asks_image request ≡ false }
-        ensures found { HasFound self.now.device (M.races mem.old) (M.sightings mem.old) (M.sightings mem.new) chain.now request
+        ensures found { HasFound self.now.device M.races (M.sightings mem.old) (M.sightings mem.new) chain.now request
             result.len result.status }
-        ensures races { M.races mem.new ≡ M.races mem.old }
         ensures range { SameRange (memory (M.sightings mem.old)) (memory (M.sightings mem.new)) }
     {
         match request {

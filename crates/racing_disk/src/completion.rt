@@ -1,6 +1,6 @@
 //! A chain in flight that is completed: its status is stored, and behind it its used entry.
 
-ghost use Rattle.std.specs.Prelude.{◌≡◌, ◌<◌};
+ghost use Rattle.std.specs.Prelude.{◌<◌};
 ghost use Rattle.guest_memory.specs.Memory.{Inside};
 ghost use Rattle.shared_memory.specs.Sightings.{memory};
 ghost use Rattle.racing_disk.specs.Completing.{IsGivenBack};
@@ -21,9 +21,8 @@ pub fn complete<Q: RacingQueue, M: Shared>(
     requires ahead { Q.IsAhead queue.old flight.token }
     requires status { Inside (memory (M.sightings mem.old)) flight.status 1 }
     requires some { 0 < flight.writable }
-    ensures back { IsGivenBack Q.kind (M.races mem.old) (M.sightings mem.old) (M.sightings mem.new) flight.status
+    ensures back { IsGivenBack Q.kind M.races (M.sightings mem.old) (M.sightings mem.new) flight.status
         flight.writable flight.operation.kind verdict (Q.entry_of flight.token) result queue.old queue.new }
-    ensures races { M.races mem.new ≡ M.races mem.old }
     ensures lies { Q.LiesIn (memory (M.sightings mem.new)) queue.new }
 {
     let writable = u64::from(flight.writable);

@@ -1,6 +1,6 @@
 //! A copy of places of a chain's readable list, in a buffer of the device's own.
 
-ghost use Rattle.std.specs.Prelude.{◌≡◌, ◌+◌, ◌≤◌, ◌<◌, ◌↔◌, [], ◌∷◌, IsTrue, IfSome, IsSomeAnd, false, length, take, drop};
+ghost use Rattle.std.specs.Prelude.{◌≡◌, ◌+◌, ◌≤◌, ◌<◌, IsTrue, IsSomeAnd, false, length, take, drop};
 ghost use Rattle.std.specs.List.{slice_get};
 ghost use Rattle.chain.specs.Buffers.{Good};
 ghost use Rattle.chain.specs.Bytes.{addresses_of, len_of};
@@ -18,8 +18,7 @@ pub(crate) fn copy_first<M: Shared>(mem: &mut M, chain: &Chain, into: &mut [u8],
     requires range { length into.old ≤ len_of false chain.now }
     ensures copied { AreBytesSeen (M.sightings mem.old) (M.sightings mem.new)
         (take (length into.old) (addresses_of false chain.now)) into.new }
-    ensures loads { Loads (M.races mem.old) (M.sightings mem.old) (M.sightings mem.new) }
-    ensures races { M.races mem.new ≡ M.races mem.old }
+    ensures loads { Loads M.races (M.sightings mem.old) (M.sightings mem.new) }
 {
     let buffers = chain.buffers();
     if has_first(buffers, into.len()) {
@@ -54,8 +53,7 @@ pub(crate) fn copy<M: Shared>(
     requires range { from + length into.old ≤ len_of false chain.now }
     ensures copied { AreBytesSeen (M.sightings mem.old) (M.sightings mem.new)
         (take (length into.old) (drop from (addresses_of false chain.now))) into.new }
-    ensures loads { Loads (M.races mem.old) (M.sightings mem.old) (M.sightings mem.new) }
-    ensures races { M.races mem.new ≡ M.races mem.old }
+    ensures loads { Loads M.races (M.sightings mem.old) (M.sightings mem.new) }
 {
     // What it ensures: no place passes 2^32.
     let _ = chain.buffers();

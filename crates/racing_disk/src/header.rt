@@ -1,6 +1,6 @@
 //! The header that each request begins with (5.2.6), by one copy.
 
-ghost use Rattle.std.specs.Prelude.{◌≡◌, ◌≤◌, false};
+ghost use Rattle.std.specs.Prelude.{◌≤◌, false};
 ghost use Rattle.chain.specs.Buffers.{Good};
 ghost use Rattle.chain.specs.Bytes.{len_of};
 ghost use Rattle.shared_memory.specs.Sightings.{Loads, memory};
@@ -16,8 +16,7 @@ pub(crate) fn read_header<M: Shared>(mem: &mut M, chain: &Chain, room: &mut Runs
     requires good { Good (memory (M.sightings mem.old)) chain.now }
     requires there { 16 ≤ len_of false chain.now }
     ensures header { IsHeader (M.sightings mem.old) (M.sightings mem.new) chain.now result.kind result.sector }
-    ensures loads { Loads (M.races mem.old) (M.sightings mem.old) (M.sightings mem.new) }
-    ensures races { M.races mem.new ≡ M.races mem.old }
+    ensures loads { Loads M.races (M.sightings mem.old) (M.sightings mem.new) }
 {
     let mut bytes = [0; HEADER_LEN as usize];
     copy_first(mem, chain, &mut bytes, room);

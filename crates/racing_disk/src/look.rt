@@ -1,6 +1,6 @@
 //! A look at the queue: a service up to the next request, which stays in flight or is answered at once.
 
-ghost use Rattle.std.specs.Prelude.{◌≡◌, ◌*◌, ◌^◌, ◌<◌, IfErr, IfNone, IfOk, IfSome, true};
+ghost use Rattle.std.specs.Prelude.{◌≡◌, ◌*◌, ◌^◌, ◌<◌, IfErr, IfNone, IfOk, IfSome};
 ghost use Rattle.guest_memory.specs.Memory.{Inside};
 ghost use Rattle.shared_memory.specs.Sightings.{memory};
 ghost use Rattle.block_device.specs.Asking.{asks_image};
@@ -52,17 +52,17 @@ impl RacingDisk {
     ) -> Result<Outcome, Found<Q::Token>>
         requires lies { Q.LiesIn (memory (M.sightings mem.old)) queue.old }
         requires disk { sector_len * self.old.device.extent.count < 2 ^ 64 }
-        ensures serves { IfOk result (λ outcome. IsRacingService Q.kind (hosted_device self.old.device) (M.races mem.old) stage limits.rounds
+        ensures serves { IfOk result (λ outcome. IsRacingService Q.kind (hosted_device self.old.device) M.races stage limits.rounds
             (standing_at (M.sightings mem.old) queue.old tt limits.budget)
             (standing_at (M.sightings mem.new) queue.new tt outcome.left) outcome.ending outcome.wanted) }
         ensures asks { IfErr result (λ found. IfSome found.flight (λ flight.
-            FindsOneThatAsks Q.kind self.old.device (M.races mem.old) stage limits.rounds
+            FindsOneThatAsks Q.kind self.old.device M.races stage limits.rounds
             (λ ring. Q.IsTaken ring flight.token) stable
             (standing_at (M.sightings mem.old) queue.old tt limits.budget)
             (standing_at (M.sightings mem.new) queue.new tt found.left)
             (Q.entry_of flight.token) flight.operation flight.status flight.writable chain.new runs.new found.wanted)) }
         ensures answers { IfErr result (λ found. IfNone found.flight (
-            FindsOneToAnswer Q.kind self.old.device (M.races mem.old) stage limits.rounds
+            FindsOneToAnswer Q.kind self.old.device M.races stage limits.rounds
             (standing_at (M.sightings mem.old) queue.old tt limits.budget)
             (standing_at (M.sightings mem.new) queue.new tt found.left) found.wanted)) }
 
@@ -73,7 +73,6 @@ impl RacingDisk {
         ensures ahead { IfErr result (λ found. IfSome found.flight (λ flight. Q.IsAhead queue.new flight.token)) }
         ensures place { IfErr result (λ found. IfSome found.flight (λ flight.
             Inside (memory (M.sightings mem.new)) flight.status 1)) }
-        ensures races { M.races mem.new ≡ M.races mem.old }
         ensures same { self.new.device ≡ self.old.device }
         ensures lies { Q.LiesIn (memory (M.sightings mem.new)) queue.new }
     {

@@ -1,7 +1,7 @@
 //! One request as its driver wrote it (5.2.6): its header and its segments are copied once, and everything that can be
 //! refused without the disk is refused by that copy.
 
-ghost use Rattle.std.specs.Prelude.{◌≡◌, ◌*◌, ◌^◌, ◌<◌};
+ghost use Rattle.std.specs.Prelude.{◌*◌, ◌^◌, ◌<◌};
 ghost use Rattle.chain.specs.Buffers.{Good};
 ghost use Rattle.shared_memory.specs.Sightings.{Loads, memory};
 ghost use Rattle.block_device.specs.Extent.{sector_len};
@@ -26,8 +26,7 @@ impl RacingDisk {
         requires good { Good (memory (M.sightings mem.old)) chain.now }
         requires disk { sector_len * self.now.device.extent.count < 2 ^ 64 }
         ensures judged { IsJudged self.now.device (M.sightings mem.old) (M.sightings mem.new) chain.now room result runs.new }
-        ensures loads { Loads (M.races mem.old) (M.sightings mem.old) (M.sightings mem.new) }
-        ensures races { M.races mem.new ≡ M.races mem.old }
+        ensures loads { Loads M.races (M.sightings mem.old) (M.sightings mem.new) }
     {
         let readable = chain.readable_len();
         if readable < HEADER_LEN {

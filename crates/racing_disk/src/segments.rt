@@ -33,8 +33,7 @@ fn read_segments<M: Shared>(
     requires few { len ≤ segment_len * max_write_zeroes_seg }
     ensures copied { HasPayload (M.sightings mem.old) (M.sightings mem.new) chain.now
         (λ payload. HasSegments len payload result) }
-    ensures loads { Loads (M.races mem.old) (M.sightings mem.old) (M.sightings mem.new) }
-    ensures races { M.races mem.new ≡ M.races mem.old }
+    ensures loads { Loads M.races (M.sightings mem.old) (M.sightings mem.new) }
 {
     let payload = &mut bytes[..len as usize];
     copy(mem, chain, HEADER_LEN, payload, room);
@@ -55,8 +54,7 @@ impl RacingDisk {
         requires payload { len_of false chain.now ≡ 16 + len }
         ensures zeroing { HasPayload (M.sightings mem.old) (M.sightings mem.new) chain.now
             (λ payload. IsZeroing self.now.device payload result runs.new) }
-        ensures loads { Loads (M.races mem.old) (M.sightings mem.old) (M.sightings mem.new) }
-        ensures races { M.races mem.new ≡ M.races mem.old }
+        ensures loads { Loads M.races (M.sightings mem.old) (M.sightings mem.new) }
     {
         match self.judged_segments(mem, chain, len, runs) {
             Ok(segments) => {
@@ -84,8 +82,7 @@ impl RacingDisk {
             (λ payload. AreJudged self.now.device payload segments)) }
         ensures err { IfErr result (λ status. HasPayload (M.sightings mem.old) (M.sightings mem.new) chain.now
             (λ payload. write_zeroes_request_of self.now.device payload ≡ Rejected status)) }
-        ensures loads { Loads (M.races mem.old) (M.sightings mem.old) (M.sightings mem.new) }
-        ensures races { M.races mem.new ≡ M.races mem.old }
+        ensures loads { Loads M.races (M.sightings mem.old) (M.sightings mem.new) }
     {
         if self.device.read_only || !are_segments(len) {
             return Err(RequestStatus::IoError);

@@ -65,13 +65,10 @@ sound_still m n block same sound = record {
   ahead = sound.ahead;
 }
 
-pub console_still : (m n : Memory) (w : WindowState) → SameRange m n → IsSound m w → IsSound n w
-console_still m n w same sound = sound_for_the_range m n w sound same
-
 pub guest_still : (m n : Memory) (guest : RacingGuest) → SameRange m n → IsSoundGuest m guest → IsSoundGuest n guest
 guest_still m n guest same sound = record {
   block = sound_still m n guest.block same sound.block;
-  console = console_still m n guest.console.window same sound.console;
+  console = sound_for_the_range m n guest.console.window sound.console same;
 }
 
 -- ---- a write to the window
@@ -100,15 +97,6 @@ written_sound offset width value m block free window sound =
     }
 
 -- ---- a service
-
--- what is in flight is held for the queue that the device may serve
-pub flights_held : (m : Memory) (w : WindowState) (queue : Queue) (disk : RacingHostedDisk Token)
-    → queue_at 0 w ≡ Some queue → IsSoundBlock m (record { window = w; disk = disk })
-    → HoldsFlights entry_of Fits ahead_of m queue disk
-flights_held m w queue disk is sound = record {
-  each = sound.each;
-  ahead = subst (λ (o : Option Queue). IfSome o (Ahead disk.tags)) is sound.ahead;
-}
 
 pub if_live : (live : Bool) (ring : Option Queue) (queue : Queue) → cond live ring None ≡ Some queue → ring ≡ Some queue
 if_live true ring queue e = e

@@ -1,6 +1,5 @@
 pub mod Making
 pub mod Holding
 pub mod Telling
-pub mod Answering
 pub mod Transmitting
 pub mod Routing

@@ -19,7 +19,8 @@ use Rattle.racing_service.specs.Service.{Standing}
 use Rattle.racing_disk.specs.Looking.{FindsOneToAnswer, FindsRequest}
 use Rattle.racing_disk.specs.Telling.{IsLeft}
 use Rattle.racing_window.specs.Queue.{racing_queue}
-use Rattle.racing_window.proofs.Staying.{made_past, refused_stays, service_stays, stays_closing}
+use Rattle.racing_service.proofs.Moving.{closing_keeps, refused_keeps, service_keeps}
+use Rattle.racing_window.proofs.Staying.{made_past, queue_moves}
 use Rattle.racing_hosted_disk.specs.declared.look.LookEnding.{LookEnding}
 use Rattle.racing_hosted_disk.specs.declared.look.LookEnding.TheVariants.{Served, Full, Limited, Idle}
 use Rattle.racing_hosted_disk.specs.declared.look.LookLimits.{LookLimits}
@@ -50,9 +51,9 @@ module _ {T : Type 0} (entry_of : T → Entry) (IsTaken : Queue → T → Type 0
   made_up_to : (a at : At) (buffers : List Buffer) (entry : Entry) (request : Request) (kept : List Segment) (wanted : Bool)
       → FindsRequest racing_queue device races stage most a at buffers entry request kept wanted → Made a at
   made_up_to a at buffers entry request kept wanted finds =
-      (refused_stays (hosted_device device) races
+      (refused_keeps queue_moves (hosted_device device) races
       (λ state readable buffers request. IsLeft device readable buffers request kept) stage most a at buffers entry request
-      wanted finds.service).made
+      wanted finds.service).stays
 
   -- ---- a look
 
@@ -92,11 +93,11 @@ module _ {T : Type 0} (entry_of : T → Entry) (IsTaken : Queue → T → Type 0
   made_ends : (stage : Stage) (ending : LookEnding) (looks : List (Look Queue T)) (a b : Place Queue T) (wanted : Bool)
       → EndsLooks racing_queue entry_of IsTaken device races limits stable stage ending looks a b wanted → Made a.service b.service
   made_ends stage (Served ending) looks a b wanted ends =
-      (service_stays (hosted_device device) races (stage_behind stage looks) limits.rounds a.service b.service ending
-      ends.asked ends.service).made
+      (service_keeps queue_moves (hosted_device device) races (stage_behind stage looks) limits.rounds a.service b.service ending
+      ends.asked ends.service).stays
   made_ends stage Full looks a b wanted ends = ap (λ (p : Place Queue T). made_as p.service.ring) ends.stands
   made_ends stage Limited looks a b wanted ends =
-      (stays_closing (hosted_device device) races ends.asked a.service b.service ends.closes).made
+      (closing_keeps queue_moves (hosted_device device) races a.service b.service ends.asked ends.closes).stays
   made_ends stage Idle looks a b wanted ends = absurd ends
 
   made_serves : (stage : Stage) (a b : Place Queue T) (ending : LookEnding) (wanted : Bool)
@@ -116,7 +117,7 @@ module _ {T : Type 0} (entry_of : T → Entry) (IsTaken : Queue → T → Type 0
   made_lands : (tag : ℕ) (verdict : Verdict) (a b : Place Queue T) (wanted : Bool)
       → Lands racing_queue entry_of device races tag verdict a b wanted → Made a.service b.service
   made_lands tag verdict a b wanted lands =
-      (stays_closing (hosted_device device) races wanted _ b.service lands.closes).made
+      (closing_keeps queue_moves (hosted_device device) races _ b.service wanted lands.closes).stays
       ∙ ap made_as lands.back.landed ∙ made_landed a.service.ring (entry_of lands.here.flight.token)
 
   made_told : (said : HostEvent) (on_hold : Bool) (a b : Place Queue T) (ending : LookEnding) (wanted : Bool)

@@ -6,7 +6,8 @@ use Rattle.racing_guest.specs.declared.reply.GuestWindow.TheVariants as window
 use Rattle.racing_guest.specs.Block.{IsSoundBlock, RacingBlock, block_register}
 use Rattle.racing_guest.specs.Console.{IsSoundConsole, RacingConsole, console_register}
 use Rattle.racing_guest.specs.Guest.{IsSoundGuest, RacingGuest, register}
-use Rattle.racing_guest.proofs.Holding.{console_still, sound_still}
+use Rattle.mmio_window.proofs.Soundness.{sound_for_the_range}
+use Rattle.racing_guest.proofs.Holding.{sound_still}
 
 abbrev pub guest_of : RacingBlock → RacingConsole → RacingGuest
 guest_of block console = record { block = block; console = console }
@@ -34,7 +35,7 @@ module _ (block : RacingBlock) (console : RacingConsole) (guest : RacingGuest) (
     here = subst (λ (g : RacingGuest). IsSoundGuest m g) (sym is) sound
 
     pub beside_block : (after : RacingBlock) → IsSoundBlock n after → IsSoundGuest n (guest_of after console)
-    beside_block after left = record { block = left; console = console_still m n console.window same here.console }
+    beside_block after left = record { block = left; console = sound_for_the_range m n console.window here.console same }
 
     pub beside_console : (after : RacingConsole) → IsSoundConsole n after → IsSoundGuest n (guest_of block after)
     beside_console after left = record { block = sound_still m n block same here.block; console = left }

@@ -15,20 +15,12 @@ use Rattle.mmio_window.specs.Window.{WindowState, queue_at, with_ring}
 use Rattle.mmio_window.proofs.Pieces.{queue_stands_open}
 use Rattle.shared_memory.specs.Sightings.{Sightings}
 use Rattle.console_device.specs.declared.no_memory.NoMemory.{NoMemory}
-use Rattle.console_device.specs.Device.{receive, transmit_within}
+use Rattle.console_device.specs.Device.{transmit_within}
 use Rattle.racing_service.specs.declared.service.Limits.{Limits}
 use Rattle.racing_service.specs.declared.service.Refused.{Refused}
 use Rattle.racing_console.specs.Output.{NoRoom}
 use Rattle.racing_window.specs.Serving.{IsLeft}
 use Rattle.racing_guest.specs.Console.{ClosesLeft, TransmitsUpTo}
-
--- the receive queue's device leaves no chain
-pub none_is_left : (found : Option Queue) (races : Bool) (most q : ℕ) (budget : Budget) (buffers : List Buffer)
-    (refused : Refused Token NoMemory) (old new : Sightings) (w w' : WindowState) (s s' : List ℕ)
-    → IsLeft receive (λ pending readable buffers why. ⊥) races most q budget found buffers refused old new w w' s s' → ⊥
-none_is_left None races most q budget buffers refused old new w w' s s' left = left
-none_is_left (Some queue) races most q budget buffers refused old new w w' s s' left =
-    left.service.leaves.serves.leaves.refuses.refuses
 
 -- a chain that is left stands in a queue which the device may serve
 there_by : {State E : Type 0} (device : Device State) (Refuses : State → List ℕ → List Buffer → E → Type 0)

@@ -110,10 +110,9 @@ impl<A: Allocator> RacingBlock<A> {
     ) -> Reply
         requires sound { IsSoundBlock (memory (M.sightings mem.old)) self.old }
         ensures waits { is_busy result ≡ must_wait offset self.old }
-        ensures writes { IsWrittenBy result offset width value (M.races mem.old) limits (M.sightings mem.old)
+        ensures writes { IsWrittenBy result offset width value M.races limits (M.sightings mem.old)
             (M.sightings mem.new) self.old self.new }
         ensures range { SameRange (memory (M.sightings mem.old)) (memory (M.sightings mem.new)) }
-        ensures races { M.races mem.new ≡ M.races mem.old }
         ensures sound { IsSoundBlock (memory (M.sightings mem.new)) self.new }
     {
         if self.must_wait(offset) {
@@ -137,10 +136,9 @@ impl<A: Allocator> RacingBlock<A> {
         room: &mut Room,
     ) -> Progress
         requires sound { IsSoundBlock (memory (M.sightings mem.old)) self.old }
-        ensures serves { NotifiesBlock (M.races mem.old) limits (queue_at 0 self.old.window) (M.sightings mem.old)
+        ensures serves { NotifiesBlock M.races limits (queue_at 0 self.old.window) (M.sightings mem.old)
             (M.sightings mem.new) self.old self.new result }
         ensures range { SameRange (memory (M.sightings mem.old)) (memory (M.sightings mem.new)) }
-        ensures races { M.races mem.new ≡ M.races mem.old }
         ensures sound { IsSoundBlock (memory (M.sightings mem.new)) self.new }
     {
         look(&mut self.window, &mut self.disk, mem, limits, chain, room)
@@ -158,12 +156,11 @@ impl<A: Allocator> RacingBlock<A> {
     ) -> Option<Progress>
         requires sound { IsSoundBlock (memory (M.sightings mem.old)) self.old }
         ensures found { is_some result ≡ has_effect said self.old.disk }
-        ensures does { IfSome result (IsToldBy said (M.races mem.old) limits (queue_at 0 self.old.window) (M.sightings mem.old)
+        ensures does { IfSome result (IsToldBy said M.races limits (queue_at 0 self.old.window) (M.sightings mem.old)
             (M.sightings mem.new) self.old self.new) }
         ensures kept { IfNone result (self.new ≡ self.old) }
         ensures unwritten { IfNone result (M.sightings mem.new ≡ M.sightings mem.old) }
         ensures range { SameRange (memory (M.sightings mem.old)) (memory (M.sightings mem.new)) }
-        ensures races { M.races mem.new ≡ M.races mem.old }
         ensures sound { IsSoundBlock (memory (M.sightings mem.new)) self.new }
     {
         told(

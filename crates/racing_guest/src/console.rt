@@ -100,12 +100,11 @@ impl<A: Allocator> RacingConsole<A> {
     ) -> Reply
         requires sound { IsSoundConsole (memory (M.sightings mem.old)) self.old }
         ensures at_once { is_busy result ≡ false }
-        ensures acts { IsActedOn (M.races mem.old) limits (O.limit out.old) (M.sightings mem.old) (M.sightings mem.new)
+        ensures acts { IsActedOn M.races limits (O.limit out.old) (M.sightings mem.old) (M.sightings mem.new)
             (with_console_written offset width value (memory (M.sightings mem.old)) self.old) self.new
             (O.bytes out.old) (O.bytes out.new) result (action_of offset width value self.old.window) }
         ensures limit { O.limit out.new ≡ O.limit out.old }
         ensures range { SameRange (memory (M.sightings mem.old)) (memory (M.sightings mem.new)) }
-        ensures races { M.races mem.new ≡ M.races mem.old }
         ensures sound { IsSoundConsole (memory (M.sightings mem.new)) self.new }
     {
         match self.window.write(offset, width, value, &RangesOf(&*mem)) {
@@ -143,9 +142,8 @@ impl<A: Allocator> RacingConsole<A> {
         room: &mut Room,
     ) -> Progress
         requires sound { IsSoundConsole (memory (M.sightings mem.old)) self.old }
-        ensures receives { Receives (M.races mem.old) limits (M.sightings mem.old) (M.sightings mem.new) self.old self.new result }
+        ensures receives { Receives M.races limits (M.sightings mem.old) (M.sightings mem.new) self.old self.new result }
         ensures range { SameRange (memory (M.sightings mem.old)) (memory (M.sightings mem.new)) }
-        ensures races { M.races mem.new ≡ M.races mem.old }
         ensures sound { IsSoundConsole (memory (M.sightings mem.new)) self.new }
     {
         let (window, device) = (&mut self.window, &mut self.device);
@@ -164,13 +162,12 @@ impl<A: Allocator> RacingConsole<A> {
         out: &mut O,
     ) -> Result<Progress, NoMemory>
         requires sound { IsSoundConsole (memory (M.sightings mem.old)) self.old }
-        ensures transmits { IfOk result (λ progress. Transmits (M.races mem.old) limits (M.sightings mem.old)
+        ensures transmits { IfOk result (λ progress. Transmits M.races limits (M.sightings mem.old)
             (M.sightings mem.new) self.old self.new progress (O.limit out.old) (O.bytes out.old) (O.bytes out.new)) }
-        ensures refused { OnErr result (IsRefused (M.races mem.old) limits (O.limit out.old) (M.sightings mem.old)
+        ensures refused { OnErr result (IsRefused M.races limits (O.limit out.old) (M.sightings mem.old)
             (M.sightings mem.new) self.old self.new (O.bytes out.old) (O.bytes out.new)) }
         ensures limit { O.limit out.new ≡ O.limit out.old }
         ensures range { SameRange (memory (M.sightings mem.old)) (memory (M.sightings mem.new)) }
-        ensures races { M.races mem.new ≡ M.races mem.old }
         ensures sound { IsSoundConsole (memory (M.sightings mem.new)) self.new }
         ensures device { self.new.device ≡ self.old.device }
     {

@@ -87,11 +87,10 @@ impl<A: Allocator> RacingGuest<A> {
     ) -> Reply
         requires sound { IsSoundGuest (memory (M.sightings mem.old)) self.old }
         ensures waits { is_busy result ≡ write_waits window offset self.old }
-        ensures writes { WritesGuest window offset width value (M.races mem.old) limits (O.limit out.old)
+        ensures writes { WritesGuest window offset width value M.races limits (O.limit out.old)
             (M.sightings mem.old) (M.sightings mem.new) self.old self.new (O.bytes out.old) (O.bytes out.new) result }
         ensures limit { O.limit out.new ≡ O.limit out.old }
         ensures range { SameRange (memory (M.sightings mem.old)) (memory (M.sightings mem.new)) }
-        ensures races { M.races mem.new ≡ M.races mem.old }
         ensures sound { IsSoundGuest (memory (M.sightings mem.new)) self.new }
     {
         let chain = &mut *self.chain;
@@ -117,11 +116,10 @@ impl<A: Allocator> RacingGuest<A> {
         out: &mut O,
     ) -> Reply
         requires sound { IsSoundGuest (memory (M.sightings mem.old)) self.old }
-        ensures serves { IsServedAgain (M.races mem.old) limits (O.limit out.old) (M.sightings mem.old)
+        ensures serves { IsServedAgain M.races limits (O.limit out.old) (M.sightings mem.old)
             (M.sightings mem.new) self.old self.new (O.bytes out.old) (O.bytes out.new) queue result }
         ensures limit { O.limit out.new ≡ O.limit out.old }
         ensures range { SameRange (memory (M.sightings mem.old)) (memory (M.sightings mem.new)) }
-        ensures races { M.races mem.new ≡ M.races mem.old }
         ensures sound { IsSoundGuest (memory (M.sightings mem.new)) self.new }
     {
         let chain = &mut *self.chain;

@@ -49,8 +49,8 @@ module _ {Ring Token : Type 0} (kind : RacingKind Ring) (entry_of : Token → En
     inside = lies;
   }
 
-  pub found_fits : (IsAhead Fits : Ring → Token → Type 0) (ahead_of : Ring → ℕ)
+  pub found_fits : {IsAhead Fits : Ring → Token → Type 0} {ahead_of : Ring → ℕ}
       → FlightLaws kind entry_of IsAhead Fits ahead_of → (flight : Option (Flight Token)) (ring : Ring)
       → IfSome flight (λ f. IsAhead ring f.token) → TagFits Fits ring (token_in (in_room flight runs))
-  found_fits IsAhead Fits ahead_of laws None ring ahead = tt
-  found_fits IsAhead Fits ahead_of laws (Some flight) ring ahead = laws.ahead_fits ring flight.token ahead
+  found_fits laws None ring ahead = tt
+  found_fits laws (Some flight) ring ahead = laws.ahead_fits ring flight.token ahead

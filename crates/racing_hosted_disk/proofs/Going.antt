@@ -18,7 +18,8 @@ use Rattle.racing_service.specs.Flights.{AreAhead, FlightLaws, Stays, TagFits, t
 use Rattle.racing_service.specs.declared.stage.Stage.{Stage}
 use Rattle.racing_service.specs.Queue.{RacingKind}
 use Rattle.racing_service.specs.Service.{Standing}
-use Rattle.racing_service.proofs.Flights.{Keeps, keeps_trans, refused_keeps}
+use Rattle.racing_service.proofs.Flights.{moves}
+use Rattle.racing_service.proofs.Moving.{Keeps, keeps_trans, refused_keeps}
 use Rattle.racing_service.proofs.Standing.{does_range}
 use Rattle.racing_disk.specs.Looking.{FindsOneThatAsks, FindsOneToAnswer, FindsRequest}
 use Rattle.racing_disk.specs.Telling.{IsLeft}
@@ -26,21 +27,21 @@ use Rattle.racing_hosted_disk.specs.Looking.{FindsIn}
 use Rattle.block_device.specs.Tags.{InFlight, free_tag, token_in, tokens_of}
 use Rattle.block_device.proofs.Freeing.{is_free, token_at, tokens_set, tokens_size}
 
-module _ {Ring Token : Type 0} (kind : RacingKind Ring) (entry_of : Token → Entry)
-    (IsAhead Fits : Ring → Token → Type 0) (ahead_of : Ring → ℕ)
+module _ {Ring Token : Type 0} {kind : RacingKind Ring} {entry_of : Token → Entry}
+    {IsAhead Fits : Ring → Token → Type 0} {ahead_of : Ring → ℕ}
     (laws : FlightLaws kind entry_of IsAhead Fits ahead_of) (device : BlockDevice) (races : Bool)
     (stage : Stage) (most : ℕ) where
   abbrev At : Type 0
   At = Standing Ring (Unit {0})
 
   abbrev Stayed : At → At → Type 0
-  Stayed a b = Keeps kind entry_of IsAhead Fits ahead_of laws a b
+  Stayed a b = Keeps (moves laws) a b
 
   -- up to the request
   up_to : (a at : At) (buffers : List Buffer) (entry : Entry) (request : Request) (kept : List Segment) (wanted : Bool)
       → FindsRequest kind device races stage most a at buffers entry request kept wanted → Stayed a at
   up_to a at buffers entry request kept wanted finds =
-      refused_keeps kind entry_of IsAhead Fits ahead_of laws (hosted_device device) races
+      refused_keeps (moves laws) (hosted_device device) races
       (λ state readable buffers request. IsLeft device readable buffers request kept) stage most a at buffers entry request
       wanted finds.service
 
@@ -79,7 +80,7 @@ module _ {Ring Token : Type 0} (kind : RacingKind Ring) (entry_of : Token → En
         stays = last;
         range = same_trans (memory at.sightings) (memory answer.done) (memory b.sightings) done given;
       } in
-      keeps_trans kind entry_of IsAhead Fits ahead_of laws (hosted_device device) races a at b before behind
+      keeps_trans (moves laws) (hosted_device device) races a at b before behind
 
   -- ---- one that asks
 

@@ -16,7 +16,8 @@ use Rattle.block_device.specs.Request.{code_of}
 use Rattle.racing_service.specs.Flights.{AreAhead, FlightLaws, Stays}
 use Rattle.racing_service.specs.Queue.{RacingKind}
 use Rattle.racing_service.specs.Service.{standing_at}
-use Rattle.racing_service.proofs.Flights.{ahead_in, ahead_landed, ahead_stays, closing_keeps}
+use Rattle.racing_service.proofs.Flights.{ahead_in, ahead_landed, ahead_stays, moves}
+use Rattle.racing_service.proofs.Moving.{closing_keeps}
 use Rattle.racing_service.proofs.Standing.{scattered_range}
 use Rattle.block_device.specs.declared.hosting.Flight.{Flight}
 use Rattle.racing_disk.specs.Completing.{IsGivenBack}
@@ -36,8 +37,8 @@ pub set_none : {T : Type 0} (tags : List (Option (InFlight T))) (i : ℕ) → No
     → set tags i None ≡ tags
 set_none tags i none = ap (set tags i) (sym (none_in (get_or tags i None) none)) ∙ set-get_or tags i None
 
-module _ {Ring Token : Type 0} (kind : RacingKind Ring) (entry_of : Token → Entry)
-    (IsAhead Fits : Ring → Token → Type 0) (ahead_of : Ring → ℕ)
+module _ {Ring Token : Type 0} {kind : RacingKind Ring} {entry_of : Token → Entry}
+    {IsAhead Fits : Ring → Token → Type 0} {ahead_of : Ring → ℕ}
     (laws : FlightLaws kind entry_of IsAhead Fits ahead_of) where
   -- a disk that didn't change
   pub holds_as : (m : Memory) (queue : Ring) (disk same : RacingHostedDisk Token) → same ≡ disk
@@ -49,7 +50,7 @@ module _ {Ring Token : Type 0} (kind : RacingKind Ring) (entry_of : Token → En
       → HoldsFlights entry_of Fits ahead_of n after disk
   outlasts m n queue after disk same stays held = record {
     each = all_same disk.device.extent.count m n disk.tags same held.each;
-    ahead = ahead_stays kind entry_of IsAhead Fits ahead_of laws queue after (tokens_of disk.tags) stays
+    ahead = ahead_stays laws queue after (tokens_of disk.tags) stays
         held.ahead;
   }
 
@@ -63,7 +64,7 @@ module _ {Ring Token : Type 0} (kind : RacingKind Ring) (entry_of : Token → En
       let at : get_or (tokens_of disk.tags) tag None ≡ Some is.here.flight.token =
       token_at disk.tags tag is.within ∙ ap token_in is.there in
       subst (λ (f : Flight Token). IsAhead queue f.token) is.its
-      (ahead_in kind entry_of IsAhead Fits ahead_of laws queue (tokens_of disk.tags) tag is.here.flight.token
+      (ahead_in laws queue (tokens_of disk.tags) tag is.here.flight.token
       there held.ahead at)
 
   module _ (device : BlockDevice) (races : Bool) where
@@ -129,14 +130,14 @@ module _ {Ring Token : Type 0} (kind : RacingKind Ring) (entry_of : Token → En
         let at : get_or (tokens_of a.tags) tag None ≡ Some t = token_at a.tags tag within ∙ ap token_in lands.there in
         let landed : AreAhead entry_of Fits ahead_of (kind.still.landed a.service.ring (entry_of t))
         (set (tokens_of a.tags) tag None) =
-        ahead_landed kind entry_of IsAhead Fits ahead_of laws a.service.ring (tokens_of a.tags) tag t there are
+        ahead_landed laws a.service.ring (tokens_of a.tags) tag t there are
         at in
         let behind : AreAhead entry_of Fits ahead_of lands.behind (set (tokens_of a.tags) tag None) =
         subst (λ (r : Ring). AreAhead entry_of Fits ahead_of r (set (tokens_of a.tags) tag None)) (sym lands.back.landed)
         landed in
-        let stays = (closing_keeps kind entry_of IsAhead Fits ahead_of laws (hosted_device device) races
+        let stays = (closing_keeps (moves laws) (hosted_device device) races
         (standing_at lands.given lands.behind tt a.service.left) b.service wanted lands.closes).stays in
-        let shut = ahead_stays kind entry_of IsAhead Fits ahead_of laws lands.behind b.service.ring
+        let shut = ahead_stays laws lands.behind b.service.ring
         (set (tokens_of a.tags) tag None) stays behind in
         let same : set (tokens_of a.tags) tag None ≡ tokens_of b.tags =
         sym (ap tokens_of lands.tags ∙ tokens_set a.tags tag None) in

@@ -84,11 +84,10 @@ impl<T: Drop, A: Allocator> RacingHostedDisk<T, A> {
     ) -> Served
         requires lies { Q.LiesIn (memory (M.sightings mem.old)) queue.old }
         requires held { HoldsFlights Q.entry_of Q.Fits Q.ahead_of (memory (M.sightings mem.old)) queue.old self.old }
-        ensures serves { ServesDisk Q.kind Q.entry_of Q.IsTaken (M.races mem.old) limits stable self.old (M.sightings mem.old)
+        ensures serves { ServesDisk Q.kind Q.entry_of Q.IsTaken M.races limits stable self.old (M.sightings mem.old)
             (M.sightings mem.new) queue.old queue.new self.new result.ending result.wanted }
         ensures device { self.new.device ≡ self.old.device }
         ensures range { SameRange (memory (M.sightings mem.old)) (memory (M.sightings mem.new)) }
-        ensures races { M.races mem.new ≡ M.races mem.old }
         ensures lies { Q.LiesIn (memory (M.sightings mem.new)) queue.new }
 
         // Nothing that the host is told lies outside the guest's memory or its disk.
@@ -110,11 +109,10 @@ impl<T: Drop, A: Allocator> RacingHostedDisk<T, A> {
     ) -> Served
         requires lies { Q.LiesIn (memory (M.sightings mem.old)) queue.old }
         requires held { HoldsFlights Q.entry_of Q.Fits Q.ahead_of (memory (M.sightings mem.old)) queue.old self.old }
-        ensures serves { LooksAtQueue Q.kind Q.entry_of Q.IsTaken (M.races mem.old) limits stable stage self.old (M.sightings mem.old)
+        ensures serves { LooksAtQueue Q.kind Q.entry_of Q.IsTaken M.races limits stable stage self.old (M.sightings mem.old)
             (M.sightings mem.new) queue.old queue.new self.new result.ending result.wanted }
         ensures device { self.new.device ≡ self.old.device }
         ensures range { SameRange (memory (M.sightings mem.old)) (memory (M.sightings mem.new)) }
-        ensures races { M.races mem.new ≡ M.races mem.old }
         ensures lies { Q.LiesIn (memory (M.sightings mem.new)) queue.new }
         ensures held { HoldsFlights Q.entry_of Q.Fits Q.ahead_of (memory (M.sightings mem.new)) queue.new self.new }
     {
@@ -137,12 +135,11 @@ impl<T: Drop, A: Allocator> RacingHostedDisk<T, A> {
     ) -> Served
         requires lies { Q.LiesIn (memory (M.sightings mem.old)) queue.old }
         requires held { HoldsFlights Q.entry_of Q.Fits Q.ahead_of (memory (M.sightings mem.old)) queue.old self.old }
-        ensures looks { HasLooked Q.kind Q.entry_of Q.IsTaken self.old.device (M.races mem.old) limits stable stage
+        ensures looks { HasLooked Q.kind Q.entry_of Q.IsTaken self.old.device M.races limits stable stage
             (place_at (M.sightings mem.old) queue.old limits.budget self.old.tags)
             (M.sightings mem.new) queue.new self.new.tags result.ending result.wanted }
         ensures rest { self.new ≡ record self.old { tags = self.new.tags } }
         ensures range { SameRange (memory (M.sightings mem.old)) (memory (M.sightings mem.new)) }
-        ensures races { M.races mem.new ≡ M.races mem.old }
         ensures lies { Q.LiesIn (memory (M.sightings mem.new)) queue.new }
         ensures held { HoldsFlights Q.entry_of Q.Fits Q.ahead_of (memory (M.sightings mem.new)) queue.new self.new }
     {

@@ -45,18 +45,17 @@ pub(crate) fn look_for<Q: KeepsFlights, M: Shared, A: Allocator>(
     requires lowest { free_tag tags.old ≡ Some tag }
     requires each { All (TagIsHeld disk.old.device.extent.count (memory (M.sightings mem.old))) tags.old }
     requires ahead { AreAhead Q.entry_of Q.Fits Q.ahead_of queue.old (tokens_of tags.old) }
-    ensures ends { IfOk result (λ outcome. IsRacingService Q.kind (hosted_device disk.old.device) (M.races mem.old) stage limits.rounds
+    ensures ends { IfOk result (λ outcome. IsRacingService Q.kind (hosted_device disk.old.device) M.races stage limits.rounds
         (standing_at (M.sightings mem.old) queue.old tt limits.budget)
         (standing_at (M.sightings mem.new) queue.new tt outcome.left) outcome.ending outcome.wanted) }
     ensures idle { OnOk result (tags.new ≡ tags.old) }
     ensures finds { IfErr result (λ step. (asks : Option (InFlight Q.Token)) × LooksOn Q.kind Q.entry_of Q.IsTaken disk.old.device
-        (M.races mem.old) stage limits.rounds stable asks (place_at (M.sightings mem.old) queue.old limits.budget tags.old)
+        M.races stage limits.rounds stable asks (place_at (M.sightings mem.old) queue.old limits.budget tags.old)
         (place_at (M.sightings mem.new) queue.new step.left tags.new) step.wanted) }
     ensures device { disk.new.device ≡ disk.old.device }
     ensures each { All (TagIsHeld disk.old.device.extent.count (memory (M.sightings mem.new))) tags.new }
     ensures ahead { AreAhead Q.entry_of Q.Fits Q.ahead_of queue.new (tokens_of tags.new) }
     ensures range { SameRange (memory (M.sightings mem.old)) (memory (M.sightings mem.new)) }
-    ensures races { M.races mem.new ≡ M.races mem.old }
     ensures lies { Q.LiesIn (memory (M.sightings mem.new)) queue.new }
 {
     let room_of = &mut tags.items[tag];
@@ -88,11 +87,11 @@ fn look_into<Q: KeepsFlights, M: Shared, A: Allocator>(
     requires lies { Q.LiesIn (memory (M.sightings mem.old)) queue.old }
     requires disk { sector_len * disk.old.device.extent.count < 2 ^ 64 }
     requires free { tag.old ≡ None }
-    ensures ends { IfOk result (λ outcome. IsRacingService Q.kind (hosted_device disk.old.device) (M.races mem.old) stage limits.rounds
+    ensures ends { IfOk result (λ outcome. IsRacingService Q.kind (hosted_device disk.old.device) M.races stage limits.rounds
         (standing_at (M.sightings mem.old) queue.old tt limits.budget)
         (standing_at (M.sightings mem.new) queue.new tt outcome.left) outcome.ending outcome.wanted) }
     ensures idle { OnOk result (tag.new ≡ None) }
-    ensures finds { IfErr result (λ step. FindsIn Q.kind Q.entry_of Q.IsTaken disk.old.device (M.races mem.old) stage limits.rounds stable tag.new
+    ensures finds { IfErr result (λ step. FindsIn Q.kind Q.entry_of Q.IsTaken disk.old.device M.races stage limits.rounds stable tag.new
         (standing_at (M.sightings mem.old) queue.old tt limits.budget)
         (standing_at (M.sightings mem.new) queue.new tt step.left) step.wanted) }
     ensures asks { IfErr result (λ step. step.asks ≡ is_some tag.new) }
@@ -100,7 +99,6 @@ fn look_into<Q: KeepsFlights, M: Shared, A: Allocator>(
     ensures held { TagIsHeld disk.old.device.extent.count (memory (M.sightings mem.new)) tag.new }
     ensures fits { TagFits Q.Fits queue.new (token_in tag.new) }
     ensures range { SameRange (memory (M.sightings mem.old)) (memory (M.sightings mem.new)) }
-    ensures races { M.races mem.new ≡ M.races mem.old }
     ensures lies { Q.LiesIn (memory (M.sightings mem.new)) queue.new }
 {
     match disk.look(

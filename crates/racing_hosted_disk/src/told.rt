@@ -35,14 +35,13 @@ impl<T: Drop, A: Allocator> RacingHostedDisk<T, A> {
         requires lies { Q.LiesIn (memory (M.sightings mem.old)) queue.old }
         requires held { HoldsFlights Q.entry_of Q.Fits Q.ahead_of (memory (M.sightings mem.old)) queue.old self.old }
         ensures found { is_some result ≡ has_effect said self.old }
-        ensures does { IfSome result (λ served. DoesAsTold Q.kind Q.entry_of Q.IsTaken (M.races mem.old) limits stable said self.old
+        ensures does { IfSome result (λ served. DoesAsTold Q.kind Q.entry_of Q.IsTaken M.races limits stable said self.old
             (M.sightings mem.old) (M.sightings mem.new) queue.old queue.new self.new served.ending served.wanted) }
         ensures kept { IfNone result (self.new ≡ self.old) }
         ensures unwritten { IfNone result (M.sightings mem.new ≡ M.sightings mem.old) }
         ensures untouched { IfNone result (queue.new ≡ queue.old) }
         ensures device { self.new.device ≡ self.old.device }
         ensures range { SameRange (memory (M.sightings mem.old)) (memory (M.sightings mem.new)) }
-        ensures races { M.races mem.new ≡ M.races mem.old }
         ensures lies { Q.LiesIn (memory (M.sightings mem.new)) queue.new }
 
         // Nothing that the host is told lies outside the guest's memory or its disk.
@@ -81,7 +80,7 @@ impl<T: Drop, A: Allocator> RacingHostedDisk<T, A> {
         requires lies { Q.LiesIn (memory (M.sightings mem.old)) queue.old }
         requires held { HoldsFlights Q.entry_of Q.Fits Q.ahead_of (memory (M.sightings mem.old)) queue.old self.old }
         ensures found { is_some result ≡ is_some (get_or self.old.tags tag None) }
-        ensures lands { IfSome result (λ wanted. (left : Budget) → Lands Q.kind Q.entry_of self.old.device (M.races mem.old) tag
+        ensures lands { IfSome result (λ wanted. (left : Budget) → Lands Q.kind Q.entry_of self.old.device M.races tag
             verdict (place_at (M.sightings mem.old) queue.old left self.old.tags)
             (place_at (M.sightings mem.new) queue.new left self.new.tags) wanted) }
         ensures rest { self.new ≡ record self.old { tags = self.new.tags } }
@@ -89,7 +88,6 @@ impl<T: Drop, A: Allocator> RacingHostedDisk<T, A> {
         ensures unwritten { IfNone result (M.sightings mem.new ≡ M.sightings mem.old) }
         ensures untouched { IfNone result (queue.new ≡ queue.old) }
         ensures range { SameRange (memory (M.sightings mem.old)) (memory (M.sightings mem.new)) }
-        ensures races { M.races mem.new ≡ M.races mem.old }
         ensures lies { Q.LiesIn (memory (M.sightings mem.new)) queue.new }
         ensures held { HoldsFlights Q.entry_of Q.Fits Q.ahead_of (memory (M.sightings mem.new)) queue.new self.new }
     {

@@ -1,6 +1,6 @@
 //! The memory, and its accesses.
 
-ghost use Rattle.std.specs.Prelude.{◌≡◌, [], ◌∷◌, ◌+◌, ◌*◌, ◌^◌, ◌≤◌, ◌<◌, ◌↔◌, length, IsTrue, slice_index_or};
+ghost use Rattle.std.specs.Prelude.{◌≡◌, [], ◌∷◌, ◌+◌, ◌*◌, ◌^◌, ◌≤◌, ◌<◌, length, slice_index_or};
 ghost use Rattle.std.specs.List.{position};
 ghost use Rattle.byteorder.specs.Endian.{little_bytes};
 ghost use Rattle.guest_memory.specs.Memory.{Inside};
@@ -100,7 +100,7 @@ impl<'r, 'w> Shared for RacingMemory<'r, 'w> {
 
     ghost sightings = { λ m. sightings_of m };
 
-    ghost races = { λ m. true };
+    ghost races = { true };
 
     fn holds(&self, addr: u64, n: u64) -> bool {
         match place_of(self.regions, addr) {

@@ -24,11 +24,6 @@ use Rattle.racing_ring.proofs.Seeing.{source_of, turn_later, turn_sooner}
 use Rattle.racing_ring.proofs.Tables.{Agree, admits_back, reached_kept, reached_range}
 use Rattle.racing_ring.proofs.Positions.{Behind, behind_push, next_at, start_at, steps, steps_of}
 
--- one read after another, where it is known by another name whether the guest races
-pub loads_on : {races races' : Bool} {old mid new : Sightings} → races' ≡ races → Loads races old mid
-    → Loads races' mid new → Loads races old new
-loads_on {races} {races'} {old} {mid} {new} same before loads = loads_trans races old mid new before (rw (← same) loads)
-
 -- the sources, where one position is read anew: all of them if it is the first one
 pub with_source : ℕ → (ℕ → Source) → ℕ → Source → ℕ → Source
 with_source zero source i s j = s
@@ -201,14 +196,13 @@ pub record Shown (races : Bool) (old new : Sightings) (desc n h wrap count i : �
   pub told : d ≡ read_table source desc n i
   pub named : id ≡ id_of (source i).flags_in (descriptor_addr desc i)
 
-pub shown : {races races' : Bool} {old mid new : Sightings} {desc n h wrap count i id flags : ℕ} {buffers : List Buffer}
-    {d : Descriptor} {withheld : Bool} → h < n → count < n → races' ≡ races → Loads races old mid
-    → Loads races' mid new → Followed (memory old) old mid desc n h wrap count i buffers
+pub shown : {races : Bool} {old mid new : Sightings} {desc n h wrap count i id flags : ℕ} {buffers : List Buffer}
+    {d : Descriptor} {withheld : Bool} → h < n → count < n → Loads races old mid
+    → Loads races mid new → Followed (memory old) old mid desc n h wrap count i buffers
     → IsCopied mid new desc n i d id flags
     → withheld ≡ (count == 0 && not (are_available flags wrap)) → withheld ≡ false
     → Shown races old new desc n h wrap count i buffers d id
-shown {races} {races'} {old} {mid} {new} {desc} {n} {h} {wrap} {count} {i} {id} {flags} {buffers} {d} {withheld} below room same before loads f c test isnt =
-    let now : Loads races mid new = rw (← same) loads in
+shown {races} {old} {mid} {new} {desc} {n} {h} {wrap} {count} {i} {id} {flags} {buffers} {d} {withheld} below room before now f c test isnt =
     let here : steps n h i ≡ count = ap (steps n h) f.at ∙ steps_of n h count below room in
     let is : with_source count f.source i c.source i ≡ c.source = with_same count f.source i c.source in
     record {
@@ -250,13 +244,13 @@ is_first count flags wrap test =
     both true true e = cc e
     both false b e = cc e
 
-pub hidden : {races races' : Bool} {old mid new : Sightings} {desc n h wrap count i id flags : ℕ} {buffers : List Buffer}
+pub hidden : {races : Bool} {old mid new : Sightings} {desc n h wrap count i id flags : ℕ} {buffers : List Buffer}
     {d : Descriptor} {withheld : Bool} → h < n → Loads races old mid
-    → Loads races' mid new → Followed (memory old) old mid desc n h wrap count i buffers
+    → Loads races mid new → Followed (memory old) old mid desc n h wrap count i buffers
     → IsCopied mid new desc n i d id flags
     → withheld ≡ (count == 0 && not (are_available flags wrap)) → withheld ≡ true
     → IsWithheld old new desc h wrap × (buffers ≡ [])
-hidden {races} {races'} {old} {mid} {new} {desc} {n} {h} {wrap} {count} {i} {id} {flags} {buffers} {d} {withheld} below before loads f c test is_so =
+hidden {races} {old} {mid} {new} {desc} {n} {h} {wrap} {count} {i} {id} {flags} {buffers} {d} {withheld} below before loads f c test is_so =
     let first = is_first count flags wrap (sym test ∙ is_so) in
     let same : i ≡ h = first_next n h count i below f.at first.0 in (
       record {

@@ -1,7 +1,6 @@
 -- A list of a packed ring that was taken, or withheld.
-use Rattle.std.proofs.Common.{◌≡◌, ℕ, ◌<◌, Bool, true, false, List, refl, sym, arith}
+use Rattle.std.proofs.Common.{◌≡◌, ℕ, Bool, true, false, List, refl, sym, arith}
 use Rattle.std.specs.Prelude.{◌&&◌, nat_lt}
-use Rattle.std.proofs.lemmas.Bool.Decides.{nat_tests}
 use Rattle.chain.specs.declared.segment.Buffer.{Buffer}
 use Rattle.chain.specs.declared.fault.Fault.{Fault}
 use Rattle.chain.specs.declared.state.RingState.{RingState}
@@ -33,17 +32,6 @@ module _ (old new : Sightings) (ring : RingState) (n h wrap : ℕ) (size : n ≡
       by : (a b : Bool) → b ≡ false → false ≡ (a && b)
       by false b e = refl
       by true b e = sym e
-
--- one was where it was taken
-pub told_offered : (old new : Sightings) (ring : RingState) (buffers : List Buffer) (entry : Entry) → 0 < ring.pending
-    → IsOffered old new ring buffers entry → IsTold old new ring true
-told_offered old new ring buffers entry some r =
-    let going : nat_lt 0 ring.pending ≡ true = grind (arith, nat_tests, some) in
-    record {
-      head_in = (r.source (head_of ring)).flags_in;
-      head_seen = r.read.first_seen;
-      told = rw going (sym r.read.available);
-    }
 
 -- and none is where the service goes no further
 pub told_none : (now : Sightings) (ring : RingState) → ring.pending ≡ 0 → IsTold now now ring false

@@ -25,7 +25,7 @@ with_addr : Buffer → ℕ → Buffer
 with_addr b addr = record b { segment = record b.segment { addr = addr } }
 
 -- both words of a descriptor stand as they do in a memory
-both_stand : (new : Sightings) (begin addr : ℕ) (m : Memory) (s : Source) (seen : IsSeenInTurn begin new s)
+pub both_stand : (new : Sightings) (begin addr : ℕ) (m : Memory) (s : Source) (seen : IsSeenInTurn begin new s)
     → IsOneDescriptor (new.at seen.flags_at) m addr → IsOneDescriptor (new.at seen.addr_at) m addr
     → IsLeftAlone s m addr
 unfolding with_addr

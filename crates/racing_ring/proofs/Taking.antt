@@ -13,11 +13,8 @@ use Rattle.racing_ring.proofs.Lying.{lies_loads}
 use Rattle.racing_ring.specs.Walk.{IsWalked, IsWalkFaulty}
 use Rattle.racing_ring.specs.Split.{IsOffered, IsFaulty}
 
-module _ (races races' : Bool) (old mid new : Sightings) (ring : RingState) (head : ℕ) (first : Loads races old mid)
-    (kept : races' ≡ races) (more : Loads races' mid new) (is : head ≡ head_of (memory mid) ring) where
-  rest : Loads races mid new
-  rest = rw (← kept) more
-
+module _ (races : Bool) (old mid new : Sightings) (ring : RingState) (head : ℕ) (first : Loads races old mid)
+    (rest : Loads races mid new) (is : head ≡ head_of (memory mid) ring) where
   abbrev was_head : SeenAs old new (memory mid)
   was_head = record { place = mid.now; from = first.later; to = rest.later; is = sym (rest.kept mid.now (omega arith)) }
 

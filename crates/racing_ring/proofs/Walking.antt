@@ -48,12 +48,11 @@ pub record LookedUp (races : Bool) (old new : Sightings) (addr n h count i : ℕ
   pub seen : AreSeen old.now new addr known
   pub walk : Walked (memory old) known n h count i buffers
 
-pub looked_up : (races races' : Bool) (old mid new : Sightings) (addr n h count i : ℕ) (known known' : Known)
-    (buffers : List Buffer) (d : Descriptor) → races' ≡ races → Loads races old mid → Loads races' mid new
+pub looked_up : (races : Bool) (old mid new : Sightings) (addr n h count i : ℕ) (known known' : Known)
+    (buffers : List Buffer) (d : Descriptor) → Loads races old mid → Loads races mid new
     → IsLookedUp mid.now new addr known known' i d → AreSeen old.now mid addr known
     → Walked (memory old) known n h count i buffers → LookedUp races old new addr n h count i known' buffers
-looked_up races races' old mid new addr n h count i known known' buffers d same before loads looked seen walk =
-    let now : Loads races mid new = rw (← same) loads in
+looked_up races old mid new addr n h count i known known' buffers d before now looked seen walk =
     record {
       loads = loads_trans races old mid new before now;
       seen = seen_looked races old mid new addr known known' i d before now looked seen;
@@ -61,11 +60,10 @@ looked_up races races' old mid new addr n h count i known known' buffers d same 
     }
 
 -- and what later reads leave
-pub looked_later : (races races' : Bool) (old at new : Sightings) (addr n h count i : ℕ) (known : Known)
-    (buffers : List Buffer) → races' ≡ races → Loads races' at new
+pub looked_later : (races : Bool) (old at new : Sightings) (addr n h count i : ℕ) (known : Known)
+    (buffers : List Buffer) → Loads races at new
     → LookedUp races old at addr n h count i known buffers → LookedUp races old new addr n h count i known buffers
-looked_later races races' old at new addr n h count i known buffers same loads s =
-    let then : Loads races at new = rw (← same) loads in
+looked_later races old at new addr n h count i known buffers then s =
     record {
       loads = loads_trans races old at new s.loads then;
       seen = seen_after races old.now at new addr known then s.seen;

@@ -2,7 +2,7 @@
 //!
 //! The second word has the flags, and is read first: a driver stores the flags of a packed descriptor last (2.8.6).
 
-ghost use Rattle.std.specs.Prelude.{◌≡◌, ◌+◌, ◌≤◌, ◌^◌};
+ghost use Rattle.std.specs.Prelude.{◌≡◌, ◌+◌, ◌^◌};
 ghost use Rattle.guest_memory.specs.Memory.{Inside, num};
 ghost use Rattle.shared_memory.specs.Sightings.{Loads, memory};
 ghost use Rattle.racing_ring.specs.Source.{AreFields};
@@ -32,8 +32,7 @@ struct SecondWord {
 #[inline(always)]
 pub(crate) fn load_fields<M: Shared>(mem: &mut M, addr: u64) -> Fields
     requires { Inside (memory (M.sightings mem.old)) addr 16 }
-    ensures fields { AreFields (M.races mem.old) (M.sightings mem.old) (M.sightings mem.new) addr result.addr result.len result.third result.last }
-    ensures races { M.races mem.new ≡ M.races mem.old }
+    ensures fields { AreFields M.races (M.sightings mem.old) (M.sightings mem.new) addr result.addr result.len result.third result.last }
 {
     let second = load_second(mem, addr);
     let first = load_first(mem, addr);
@@ -52,8 +51,7 @@ fn load_second<M: Shared>(mem: &mut M, addr: u64) -> SecondWord
     ensures len { result.len ≡ num (memory (M.sightings mem.new)) (addr + 8) 4 }
     ensures third { result.third ≡ num (memory (M.sightings mem.new)) (addr + 12) 2 }
     ensures last { result.last ≡ num (memory (M.sightings mem.new)) (addr + 14) 2 }
-    ensures loads { Loads (M.races mem.old) (M.sightings mem.old) (M.sightings mem.new) }
-    ensures races { M.races mem.new ≡ M.races mem.old }
+    ensures loads { Loads M.races (M.sightings mem.old) (M.sightings mem.new) }
 {
     // So the address of the second word doesn't pass 2^64.
     mem.fits(addr, 16);
@@ -71,8 +69,7 @@ fn load_second<M: Shared>(mem: &mut M, addr: u64) -> SecondWord
 fn load_first<M: Shared>(mem: &mut M, addr: u64) -> u64
     requires { Inside (memory (M.sightings mem.old)) addr 16 }
     ensures value { result ≡ num (memory (M.sightings mem.new)) addr 8 }
-    ensures loads { Loads (M.races mem.old) (M.sightings mem.old) (M.sightings mem.new) }
-    ensures races { M.races mem.new ≡ M.races mem.old }
+    ensures loads { Loads M.races (M.sightings mem.old) (M.sightings mem.new) }
 {
     let mut word = [0; 8];
     mem.load(addr, &mut word);

@@ -1,13 +1,8 @@
 //! The packed ring: its places, and how a service takes lists of it.
 
-ghost use Rattle.std.specs.Prelude.{◌≡◌, ◌+◌, ◌*◌, ◌<◌, ◌≤◌, [], is_some, if◌then◌else◌, IfSome, IfNone, IfOk, IfErr, OnOk, OnErr};
-ghost use Rattle.std.specs.Result.{result_err};
-ghost use Rattle.chain.specs.Buffers.{Good};
-ghost use Rattle.chain.specs.Setup.{stopped};
+ghost use Rattle.std.specs.Prelude.{◌≡◌, ◌+◌, ◌*◌, ◌<◌, ◌≤◌, if◌then◌else◌};
 ghost use Rattle.packed_ring.specs.Ring.{IsQueueSize, LiesIn, head_of, next_taken, next_wrap};
-ghost use Rattle.packed_ring.specs.Kind.{IsTaken, entry_of, packed_kind};
-ghost use Rattle.shared_memory.specs.Sightings.{Loads, memory};
-ghost use Rattle.racing_ring.specs.Packed.{IsFaulty, IsOffered, IsTold};
+ghost use Rattle.shared_memory.specs.Sightings.{memory};
 
 mod closing;
 mod laws;

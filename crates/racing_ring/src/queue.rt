@@ -38,8 +38,7 @@ pub trait RacingQueue {
     /// Opens a round. After an error nothing may be taken in it.
     fn open<M: Shared>(&mut self, mem: &mut M) -> Result<(), Fault>
         requires { LiesIn (memory (M.sightings mem.old)) self.old }
-        ensures loads { Loads (M.races mem.old) (M.sightings mem.old) (M.sightings mem.new) }
-        ensures races { M.races mem.new ≡ M.races mem.old }
+        ensures loads { Loads M.races (M.sightings mem.old) (M.sightings mem.new) }
         ensures fault { result_err result ≡ kind.still.opening_fault (memory (M.sightings mem.new)) self.old }
         ensures opened { self.new ≡ kind.still.opened (memory (M.sightings mem.new)) self.old }
         ensures lies { LiesIn (memory (M.sightings mem.new)) self.new };
@@ -53,8 +52,7 @@ pub trait RacingQueue {
         room: &mut Room,
     ) -> Result<Option<Self::Token>, Fault>
         requires { LiesIn (memory (M.sightings mem.old)) self.old }
-        ensures loads { Loads (M.races mem.old) (M.sightings mem.old) (M.sightings mem.new) }
-        ensures races { M.races mem.new ≡ M.races mem.old }
+        ensures loads { Loads M.races (M.sightings mem.old) (M.sightings mem.new) }
         ensures told { IfOk result (λ taken. kind.IsTold (M.sightings mem.old) (M.sightings mem.new) self.old (is_some taken)) }
         ensures offered { IfOk result (λ taken. IfSome taken (λ token. kind.IsOffered (M.sightings mem.old) (M.sightings mem.new) self.old chain.new (entry_of token))) }
         ensures taken { IfOk result (λ taken. IfSome taken (IsTaken self.old)) }
@@ -72,8 +70,7 @@ pub trait RacingQueue {
     fn give<M: Shared>(&mut self, mem: &mut M, token: Self::Token, used: Used)
         requires lies { LiesIn (memory (M.sightings mem.old)) self.old }
         requires taken { IsTaken self.old token }
-        ensures given { kind.IsGiven (M.races mem.old) (M.sightings mem.old) (M.sightings mem.new) self.old (entry_of token) used.len used.wrote }
-        ensures races { M.races mem.new ≡ M.races mem.old }
+        ensures given { kind.IsGiven M.races (M.sightings mem.old) (M.sightings mem.new) self.old (entry_of token) used.len used.wrote }
         ensures past { self.new ≡ kind.still.past self.old (entry_of token) }
         ensures fewer { left_of self.new < left_of self.old }
         ensures lies { LiesIn (memory (M.sightings mem.new)) self.new };
@@ -90,8 +87,7 @@ pub trait RacingQueue {
     fn land<M: Shared>(&mut self, mem: &mut M, token: Self::Token, used: Used)
         requires lies { LiesIn (memory (M.sightings mem.old)) self.old }
         requires ahead { IsAhead self.old token }
-        ensures given { kind.IsGiven (M.races mem.old) (M.sightings mem.old) (M.sightings mem.new) self.old (entry_of token) used.len used.wrote }
-        ensures races { M.races mem.new ≡ M.races mem.old }
+        ensures given { kind.IsGiven M.races (M.sightings mem.old) (M.sightings mem.new) self.old (entry_of token) used.len used.wrote }
         ensures landed { self.new ≡ kind.still.landed self.old (entry_of token) }
         ensures lies { LiesIn (memory (M.sightings mem.new)) self.new };
 
@@ -99,8 +95,7 @@ pub trait RacingQueue {
     /// of the places passed since the last `open`.
     fn close<M: Shared>(&mut self, mem: &mut M) -> bool
         requires { LiesIn (memory (M.sightings mem.old)) self.old }
-        ensures closed { kind.IsClosed (M.races mem.old) (M.sightings mem.old) (M.sightings mem.new) self.old result }
-        ensures races { M.races mem.new ≡ M.races mem.old }
+        ensures closed { kind.IsClosed M.races (M.sightings mem.old) (M.sightings mem.new) self.old result }
         ensures shut { self.new ≡ kind.still.shut self.old }
         ensures lies { LiesIn (memory (M.sightings mem.new)) self.new };
 

@@ -82,8 +82,7 @@ impl Known {
         requires below { index < 256 }
         requires there { Inside (memory (M.sightings mem.old)) (addr + 16 * index) 16 }
         requires fits { addr + 16 * index < 2 ^ 64 }
-        ensures loads { Loads (M.races mem.old) (M.sightings mem.old) (M.sightings mem.new) }
-        ensures races { M.races mem.new ≡ M.races mem.old }
+        ensures loads { Loads M.races (M.sightings mem.old) (M.sightings mem.new) }
         ensures looked { IsLookedUp (M.sightings mem.old).now (M.sightings mem.new) addr self.old self.new index result }
     {
         let at = usize::from(index);
@@ -105,8 +104,7 @@ impl Known {
 fn read<M: Shared>(mem: &mut M, addr: u64) -> Descriptor
     requires { Inside (memory (M.sightings mem.old)) addr 16 }
     ensures seen { IsDescriptorSeen (M.sightings mem.old).now (M.sightings mem.new) addr result }
-    ensures loads { Loads (M.races mem.old) (M.sightings mem.old) (M.sightings mem.new) }
-    ensures races { M.races mem.new ≡ M.races mem.old }
+    ensures loads { Loads M.races (M.sightings mem.old) (M.sightings mem.new) }
 {
     let fields = load_fields(mem, addr);
     let flags = fields.third;

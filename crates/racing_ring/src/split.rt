@@ -1,13 +1,8 @@
 //! The split ring: its places, and how a service takes chains of it.
 
-ghost use Rattle.std.specs.Prelude.{◌≡◌, ◌+◌, ◌*◌, ◌%◌, ◌^◌, ◌<◌, ◌≤◌, [], nat_lt, is_some, IfSome, IfNone, IfOk, IfErr, OnOk, OnErr};
-ghost use Rattle.std.specs.Result.{result_err};
-ghost use Rattle.chain.specs.Buffers.{Good};
-ghost use Rattle.chain.specs.Setup.{stopped};
+ghost use Rattle.std.specs.Prelude.{◌≡◌, ◌+◌, ◌*◌, ◌%◌, ◌^◌, ◌<◌, ◌≤◌};
 ghost use Rattle.split_ring.specs.Ring.{IsQueueSize, LiesIn, head_of, next_taken};
-ghost use Rattle.split_ring.specs.Kind.{IsTaken, entry_of, split_kind};
 ghost use Rattle.shared_memory.specs.Sightings.{Loads, memory};
-ghost use Rattle.racing_ring.specs.Split.{IsFaulty, IsOffered};
 
 mod closing;
 mod making;
@@ -91,8 +86,7 @@ impl RacingSplitRing {
     fn head<M: Shared>(&self, mem: &mut M) -> u16
         requires { LiesIn (memory (M.sightings mem.old)) self.now.setup }
         ensures value { result ≡ head_of (memory (M.sightings mem.new)) self.now }
-        ensures loads { Loads (M.races mem.old) (M.sightings mem.old) (M.sightings mem.new) }
-        ensures races { M.races mem.new ≡ M.races mem.old }
+        ensures loads { Loads M.races (M.sightings mem.old) (M.sightings mem.new) }
     {
         let entry = 2 * self.entry_at(self.next_taken());
         mem.fits(

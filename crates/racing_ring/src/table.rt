@@ -25,8 +25,7 @@ pub(crate) fn append_table<M: Shared>(
     chain: &mut Chain,
     room: &mut [u8; 4096],
 ) -> Result<(), Fault>
-    ensures loads { Loads (M.races mem.old) (M.sightings mem.old) (M.sightings mem.new) }
-    ensures races { M.races mem.new ≡ M.races mem.old }
+    ensures loads { Loads M.races (M.sightings mem.old) (M.sightings mem.new) }
     ensures ok { OnOk result ((count : ℕ) → EndsInTable split_tables negotiated (memory (M.sightings mem.new)) chain.old count descriptor chain.new) }
     ensures fault { IfErr result (λ fault. (count : ℕ) → TableRefused split_tables negotiated (memory (M.sightings mem.new)) chain.old count descriptor fault) }
 {
@@ -49,8 +48,7 @@ pub(crate) fn copy_table<M: Shared>(
     len: u32,
     room: &mut [u8; 4096],
 ) -> Result<(), Fault>
-    ensures loads { Loads (M.races mem.old) (M.sightings mem.old) (M.sightings mem.new) }
-    ensures races { M.races mem.new ≡ M.races mem.old }
+    ensures loads { Loads M.races (M.sightings mem.old) (M.sightings mem.new) }
     ensures ok { OnOk result (IsTable (memory (M.sightings mem.new)) addr len) }
     ensures copied { OnOk result (take len room.new ≡ part_of (memory (M.sightings mem.new)) addr len) }
     ensures err { OnErr result (¬ IsTable (memory (M.sightings mem.new)) addr len) }

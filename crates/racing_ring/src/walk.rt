@@ -31,8 +31,7 @@ pub(crate) fn append_path<M: Shared>(
     requires few { table.size ≤ 256 }
     requires empty { chain.old ≡ [] }
     requires unread { room.old.known ≡ replicate 256 None }
-    ensures loads { Loads (M.races mem.old) (M.sightings mem.old) (M.sightings mem.new) }
-    ensures races { M.races mem.new ≡ M.races mem.old }
+    ensures loads { Loads M.races (M.sightings mem.old) (M.sightings mem.new) }
     ensures ok { OnOk result (IsWalked (M.sightings mem.old).now (M.sightings mem.new) table.indirect table.addr table.size head chain.new) }
     ensures fault { IfErr result (IsWalkFaulty (M.sightings mem.old).now (M.sightings mem.new) table.indirect table.addr table.size head) }
 {

@@ -68,15 +68,15 @@ module _ {Ring State : Type 0} (kind : RacingKind Ring) (device : Device State) 
       → OnlyLoads kind device races (standing_at old ring s left) (standing_at new last s left)
   only old new ring last s left loads = record { loads = loads; state = refl; left = refl }
 
-  -- One more chain is taken, served and given back. The memory's races stay at each step.
-  pub one_more : (first : Standing Ring State) (some : Bool) (r r' r'' : Bool) (old taken served new : Sightings)
+  -- One more chain is taken, served and given back.
+  pub one_more : (first : Standing Ring State) (some : Bool) (old taken served new : Sightings)
       (ring same past : Ring) (s t : State) (left left' : Budget) (buffers : List Buffer) (entry : Entry)
       (len : ℕ) (any : Bool) → IsInRound first (standing_at old ring s left) some
-      → r ≡ races → r' ≡ r → r'' ≡ r' → device.takes s ≡ true → ¬ IsSpent left → left' ≡ less_chain left buffers
-      → Loads r old taken → kind.IsTold old taken ring true → kind.IsOffered old taken ring buffers entry → same ≡ ring
-      → DoesRaced device r' taken served buffers s t len any → kind.IsGiven r'' served new same entry len any
+      → device.takes s ≡ true → ¬ IsSpent left → left' ≡ less_chain left buffers
+      → Loads races old taken → kind.IsTold old taken ring true → kind.IsOffered old taken ring buffers entry → same ≡ ring
+      → DoesRaced device races taken served buffers s t len any → kind.IsGiven races served new same entry len any
       → past ≡ kind.still.past same entry → IsInRound first (standing_at new past t left') true
-  one_more first some r r' r'' old taken served new ring same past s t left left' buffers entry len any p is is' is''
+  one_more first some old taken served new ring same past s t left left' buffers entry len any p
       takes within spends loads told offered unchanged does given passes =
       let one : ServesOne kind device races (standing_at old ring s left) (standing_at new past t left') = record {
         taken = taken;
@@ -87,11 +87,11 @@ module _ {Ring State : Type 0} (kind : RacingKind Ring) (device : Device State) 
         any = any;
         takes = takes;
         within = within;
-        loads = rw is at loads;
+        loads = loads;
         told = told;
         offered = offered;
-        does = rw (is', is) at does;
-        given = rw (is'', is', is, unchanged) at given;
+        does = does;
+        given = rw unchanged at given;
         past = rw unchanged at passes;
         left = spends;
       } in
@@ -109,29 +109,29 @@ module _ {Ring State : Type 0} (kind : RacingKind Ring) (device : Device State) 
         ring = refl;
       })
 
-  pub not_offered : (first : Standing Ring State) (some : Bool) (r : Bool) (old new : Sightings) (ring same : Ring) (s : State)
+  pub not_offered : (first : Standing Ring State) (some : Bool) (old new : Sightings) (ring same : Ring) (s : State)
       (left : Budget) (stop : Stop) → stop ≡ (if some then Dry else Idle)
-      → IsInRound first (standing_at old ring s left) some → r ≡ races → Loads r old new
+      → IsInRound first (standing_at old ring s left) some → Loads races old new
       → kind.IsTold old new ring false → same ≡ ring
       → ServesAs kind device races stop first (standing_at new same s left)
-  not_offered first some r old new ring same s left stop stops p is loads told unchanged =
+  not_offered first some old new ring same s left stop stops p loads told unchanged =
       runs_out first (standing_at old ring s left) (standing_at new same s left) some stop stops p (record {
-        only = only old new ring same s left (rw is at loads);
+        only = only old new ring same s left loads;
         none = λ takes. told;
         ring = unchanged;
       })
 
   -- the chain on offer has a fault
-  pub broken : (first : Standing Ring State) (some : Bool) (r : Bool) (old new : Sightings) (ring stopped : Ring) (s : State)
-      (left : Budget) (fault : Fault) → IsInRound first (standing_at old ring s left) some → r ≡ races
-      → device.takes s ≡ true → Loads r old new → kind.IsFaulty old new ring fault → stopped ≡ kind.still.stopped ring
+  pub broken : (first : Standing Ring State) (some : Bool) (old new : Sightings) (ring stopped : Ring) (s : State)
+      (left : Budget) (fault : Fault) → IsInRound first (standing_at old ring s left) some
+      → device.takes s ≡ true → Loads races old new → kind.IsFaulty old new ring fault → stopped ≡ kind.still.stopped ring
       → ServesAs kind device races (Broken fault) first (standing_at new stopped s left)
-  broken first some r old new ring stopped s left fault p is takes loads faulty stops = record {
+  broken first some old new ring stopped s left fault p takes loads faulty stops = record {
     between = p.between;
     at = standing_at old ring s left;
     serves = p.serves;
     halts = record {
-      only = only old new ring stopped s left (rw is at loads);
+      only = only old new ring stopped s left loads;
       takes = takes;
       faulty = faulty;
       ring = stops;
@@ -139,17 +139,17 @@ module _ {Ring State : Type 0} (kind : RacingKind Ring) (device : Device State) 
   }
 
   -- nothing is left of the budget
-  pub paused : (first : Standing Ring State) (some : Bool) (r : Bool) (old new : Sightings) (ring same : Ring) (s : State)
+  pub paused : (first : Standing Ring State) (some : Bool) (old new : Sightings) (ring same : Ring) (s : State)
       (left : Budget) (buffers : List Buffer) (entry : Entry) → IsInRound first (standing_at old ring s left) some
-      → r ≡ races → device.takes s ≡ true → IsSpent left → Loads r old new → kind.IsTold old new ring true
+      → device.takes s ≡ true → IsSpent left → Loads races old new → kind.IsTold old new ring true
       → kind.IsOffered old new ring buffers entry → same ≡ ring
       → ServesAs kind device races Paused first (standing_at new same s left)
-  paused first some r old new ring same s left buffers entry p is takes spent loads told offered unchanged = record {
+  paused first some old new ring same s left buffers entry p takes spent loads told offered unchanged = record {
     between = p.between;
     at = standing_at old ring s left;
     serves = p.serves;
     halts = record {
-      only = only old new ring same s left (rw is at loads);
+      only = only old new ring same s left loads;
       takes = takes;
       spent = spent;
       told = told;
@@ -161,14 +161,14 @@ module _ {Ring State : Type 0} (kind : RacingKind Ring) (device : Device State) 
   }
 
   -- the device leaves the chain on offer
-  pub left_there : {E : Type 0} (first : Standing Ring State) (some : Bool) (r r' : Bool) (old taken new : Sightings)
+  pub left_there : {E : Type 0} (first : Standing Ring State) (some : Bool) (old taken new : Sightings)
       (ring same : Ring) (s t : State) (left left' : Budget) (buffers : List Buffer) (entry : Entry)
       (Refuses : State → List ℕ → List Buffer → E → Type 0) (why : E) → IsInRound first (standing_at old ring s left) some
-      → r ≡ races → r' ≡ r → device.takes s ≡ true → ¬ IsSpent left → left' ≡ less_chain left buffers → Loads r old taken
+      → device.takes s ≡ true → ¬ IsSpent left → left' ≡ less_chain left buffers → Loads races old taken
       → kind.IsTold old taken ring true → kind.IsOffered old taken ring buffers entry → same ≡ ring
-      → RefusesRaced Refuses r' taken new buffers s why → t ≡ s
+      → RefusesRaced Refuses races taken new buffers s why → t ≡ s
       → ServesUpTo kind device races Refuses buffers entry why first (standing_at new same t left')
-  left_there first some r r' old taken new ring same s t left left' buffers entry Refuses why p is is' takes within spends
+  left_there first some old taken new ring same s t left left' buffers entry Refuses why p takes within spends
       loads told offered unchanged refuses kept = record {
         between = p.between;
         at = standing_at old ring s left;
@@ -177,10 +177,10 @@ module _ {Ring State : Type 0} (kind : RacingKind Ring) (device : Device State) 
           taken = taken;
           takes = takes;
           within = within;
-          loads = rw is at loads;
+          loads = loads;
           told = told;
           offered = offered;
-          refuses = rw (is', is) at refuses;
+          refuses = refuses;
           ring = unchanged;
           state = kept;
           left = spends;
@@ -210,11 +210,10 @@ module _ {Ring State : Type 0} (kind : RacingKind Ring) (device : Device State) 
     ran_as Paused a start b opens none serves = ran_to Limited a start b opens none serves
     ran_as (Broken fault) a start b opens none serves = ran_to (Met fault) a start b opens none serves
 
-    opening : (r : Bool) (old new : Sightings) (ring opened : Ring) (s : State) (left : Budget) → r ≡ races
-        → Loads r old new → opened ≡ opened_at kind stage (memory new) ring
+    opening : (old new : Sightings) (ring opened : Ring) (s : State) (left : Budget) → Loads races old new → opened ≡ opened_at kind stage (memory new) ring
         → IsOpened kind device races stage (standing_at old ring s left) (standing_at new opened s left)
-    opening r old new ring opened s left is loads opens = record {
-      only = only old new ring opened s left (rw is at loads);
+    opening old new ring opened s left loads opens = record {
+      only = only old new ring opened s left loads;
       ring = opens;
     }
 
@@ -225,7 +224,7 @@ module _ {Ring State : Type 0} (kind : RacingKind Ring) (device : Device State) 
         → RunsAs kind device races stage stop (standing_at old ring s left) b
     ran stop old new ring opened s left b loads none opens serves =
         ran_as stop (standing_at old ring s left) (standing_at new opened s left) b
-        (opening races old new ring opened s left refl loads opens) none serves
+        (opening old new ring opened s left loads opens) none serves
 
     -- what serving behind it comes to, or a chain that is left
     pub ran_ok : {E : Type 0} (result : Result Stop E) (old new : Sightings) (ring opened : Ring) (s : State) (left : Budget)
@@ -248,7 +247,7 @@ module _ {Ring State : Type 0} (kind : RacingKind Ring) (device : Device State) 
     ran_up_to entry_of Refuses buffers (Ok stop) old new ring opened s left b loads none opens serves = tt
     ran_up_to entry_of Refuses buffers (Err held) old new ring opened s left b loads none opens serves = record {
       opened = standing_at new opened s left;
-      opens = opening races old new ring opened s left refl loads opens;
+      opens = opening old new ring opened s left loads opens;
       no_fault = sym none;
       serves = serves;
     }
@@ -261,7 +260,7 @@ module _ {Ring State : Type 0} (kind : RacingKind Ring) (device : Device State) 
     ran_into old new ring opened s left fault loads some opens =
         let start = standing_at new opened s left in record {
           opened = start;
-          opens = opening races old new ring opened s left refl loads opens;
+          opens = opening old new ring opened s left loads opens;
           works = subst (λ (f : Option Fault). Works kind device races f start (Met fault) start) some (refl, refl);
         }
 
@@ -375,16 +374,16 @@ module _ {Ring State : Type 0} (kind : RacingKind Ring) (device : Device State) 
   service_begins stage a = record { rounds = []; serves = refl; count = refl; here_is = refl; wanted_is = refl }
 
   -- a queue was closed
-  closing : (r : Bool) (old new : Sightings) (ring shut : Ring) (s : State) (left : Budget) (asked : Bool) → r ≡ races
-      → kind.IsClosed r old new ring asked → shut ≡ kind.still.shut ring
+  closing : (old new : Sightings) (ring shut : Ring) (s : State) (left : Budget) (asked : Bool)
+      → kind.IsClosed races old new ring asked → shut ≡ kind.still.shut ring
       → IsClosing kind device races (standing_at old ring s left) (standing_at new shut s left) asked
-  closing r old new ring shut s left asked is closed shuts =
-      record { closed = rw is at closed; ring = shuts; state = refl; left = refl }
+  closing old new ring shut s left asked closed shuts =
+      record { closed = closed; ring = shuts; state = refl; left = refl }
 
-  module _ (stage here : Stage) (a b : Standing Ring State) (n : ℕ) (wanted : Bool) (stop : Stop) (r : Bool)
+  module _ (stage here : Stage) (a b : Standing Ring State) (n : ℕ) (wanted : Bool) (stop : Stop)
       (old new : Sightings) (ring shut : Ring) (s : State) (left : Budget) (asked wanted' : Bool)
-      (p : IsInService stage here a b n wanted) (is : r ≡ races)
-      (run : RunsAs kind device races here stop b (standing_at old ring s left)) (closed : kind.IsClosed r old new ring asked)
+      (p : IsInService stage here a b n wanted)
+      (run : RunsAs kind device races here stop b (standing_at old ring s left)) (closed : kind.IsClosed races old new ring asked)
       (shuts : shut ≡ kind.still.shut ring) (wants : wanted' ≡ (wanted || asked)) where
     -- one more round, behind which none was on offer
     pub service_goes_on : ending_of stop ≡ None → (here ≡ Again → ¬ (stop ≡ Idle))
@@ -394,7 +393,7 @@ module _ {Ring State : Type 0} (kind : RacingKind Ring) (device : Device State) 
           rounds = p.rounds ++ round ∷ [];
           serves = rounds_push stage a b (standing_at old ring s left) p.rounds round stop e
               (λ behind. fresh (p.here_is ∙ behind)) p.serves (rw p.here_is at run)
-              (closing r old new ring shut s left asked is closed shuts);
+              (closing old new ring shut s left asked closed shuts);
           count = length_push p.rounds round ∙ ap (λ (k : ℕ). k + 1) p.count;
           here_is = behind_push stage p.rounds round;
           wanted_is = wants ∙ ap (λ (w : Bool). w || asked) p.wanted_is ∙ sym (wanted_push p.rounds round);
@@ -418,7 +417,7 @@ module _ {Ring State : Type 0} (kind : RacingKind Ring) (device : Device State) 
           round = record {
             last = standing_at old ring s left;
             run = run;
-            closes = closing r old new ring shut s left asked is closed shuts;
+            closes = closing old new ring shut s left asked closed shuts;
           };
           wanted_is = wants ∙ ap (λ (w : Bool). w || asked) p.wanted_is;
         }

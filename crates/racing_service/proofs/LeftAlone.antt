@@ -12,7 +12,7 @@ use Rattle.chain.specs.Buffers.{Good}
 use Rattle.chain.specs.Service.{Device, Entry}
 use Rattle.chain.proofs.Servicing.{both}
 use Rattle.indirect.specs.declared.descriptor.Descriptor.{Descriptor}
-use Rattle.indirect.specs.Descriptors.{packed_buffer, split_descriptor}
+use Rattle.indirect.specs.Descriptors.{split_descriptor}
 use Rattle.indirect.specs.Walks.{Leads, first_of}
 use Rattle.indirect.specs.Lists.{TableKind, split_tables, packed_tables, EndsBy, ListResolves}
 use Rattle.split_ring.specs.Ring as split_ring
@@ -29,7 +29,7 @@ use Rattle.racing_ring.specs.Table.{IsTableSeen, read_split}
 use Rattle.racing_ring.specs.Source.{IsSeenInTurn, Source}
 use Rattle.racing_ring.proofs.PackedLeaving.{described_one}
 use Rattle.racing_ring.proofs.Positions.{next_is, start_at}
-use Rattle.racing_ring.proofs.Publishing.{published_alone}
+use Rattle.racing_ring.proofs.Publishing.{both_stand, published_alone}
 use Rattle.racing_ring.proofs.Tables.{Agree, reached_kept}
 use Rattle.racing_service.specs.Queue.{RacingKind, racing_packed, racing_split}
 use Rattle.racing_service.specs.Service.{Standing, LeavesOne}
@@ -202,26 +202,13 @@ split_alike old new ring buffers entry o keeps =
           (split_seen begin new ring o.walked.table o.walked.table_seen members below each);
     }
 
--- a buffer with another address
-buffer_at : Buffer → ℕ → Buffer
-buffer_at b addr = record b { segment = record b.segment { addr = addr } }
-
 packed_one : (begin : ℕ) (new : Sightings) (source : Source) (addr : ℕ) → IsSeenInTurn begin new source
     → ((k : ℕ) → begin ≤ k → k ≤ new.now → IsOneDescriptor (new.at k) (memory new) addr)
     → packed.IsLeftAlone source (memory new) addr
-unfolding buffer_at
 packed_one begin new source addr seen same =
-    let m = memory new in
-    let flags = same seen.flags_at seen.from (omega (arith, seen.in_turn, seen.to)) in
-    let address = same seen.addr_at (omega (arith, seen.from, seen.in_turn)) seen.to in
-    record {
-      buffer = ap (λ (n : Memory). buffer_at (packed_buffer n addr) (num source.addr_in addr 8)) seen.flags_is
-          ∙ ap (λ (n : Memory). buffer_at (packed_buffer (new.at seen.flags_at) addr) (num n addr 8)) seen.addr_is
-          ∙ ap (λ (b : Buffer). buffer_at b (num (new.at seen.addr_at) addr 8)) flags.buffer
-          ∙ ap (λ (b : Buffer). buffer_at (packed_buffer m addr) b.segment.addr) address.buffer;
-      id = ap (λ (n : Memory). packed_ring.id_of n addr) seen.flags_is ∙ flags.id;
-      flags = ap (λ (n : Memory). packed_ring.flags_of n addr) seen.flags_is ∙ flags.flags;
-    }
+    both_stand new begin addr (memory new) source seen
+    (same seen.flags_at seen.from (omega (arith, seen.in_turn, seen.to)))
+    (same seen.addr_at (omega (arith, seen.from, seen.in_turn)) seen.to)
 
 packed_seen : (begin : ℕ) (new : Sightings) (desc n : ℕ) (source : ℕ → Source) → AreSources begin new n source
     → (members : List ℕ) → AllByRecursion (λ i. i < n) members

@@ -1,5 +1,5 @@
 -- A round of a guest that stands still is one service of chain's definition, for every kind of ring and every device.
-use Rattle.std.proofs.Common.{◌≡◌, ◌∙◌, ◌↔◌, ℕ, ◌<◌, Bool, true, false, Option, Some, None, List, [], ◌∷◌, length, refl, sym, ap, subst, arith}
+use Rattle.std.proofs.Common.{◌≡◌, ◌∙◌, ◌↔◌, ℕ, Bool, true, false, Option, Some, None, List, [], ◌∷◌, length, refl, sym, ap, subst}
 use Rattle.std.specs.Prelude.{◌&&◌, ◌||◌, IsTrue}
 use Rattle.guest_memory.specs.Memory.{Memory, SameRange}
 use Rattle.guest_memory.proofs.Ranges.{same_trans}

@@ -20,33 +20,27 @@ use Rattle.racing_service.proofs.Standing.{part_more}
 
 -- ---- what was seen stays seen
 
-pub bytes_later : (races : Bool) (a b c : Sightings) (addrs bytes : List ℕ) → Loads races b c → AreBytesSeen a b addrs bytes
-    → AreBytesSeen a c addrs bytes
-bytes_later races a b c [] [] loads seen = tt
-bytes_later races a b c [] (x ∷ bytes) loads seen = absurd seen
-bytes_later races a b c (at ∷ addrs) [] loads seen = absurd seen
-bytes_later races a b c (at ∷ addrs) (x ∷ bytes) loads seen = (
+bytes_by : (a b c d : Sightings) (addrs bytes : List ℕ) → ((m : Memory) → SeenAs a b m → SeenAs c d m)
+    → AreBytesSeen a b addrs bytes → AreBytesSeen c d addrs bytes
+bytes_by a b c d [] [] keeps seen = tt
+bytes_by a b c d [] (x ∷ bytes) keeps seen = absurd seen
+bytes_by a b c d (at ∷ addrs) [] keeps seen = absurd seen
+bytes_by a b c d (at ∷ addrs) (x ∷ bytes) keeps seen = (
   record {
     where_read = seen.0.where_read;
-    seen = seen_later races a b c seen.0.where_read loads seen.0.seen;
+    seen = keeps seen.0.where_read seen.0.seen;
     is = seen.0.is;
   },
-  bytes_later races a b c addrs bytes loads seen.1,
+  bytes_by a b c d addrs bytes keeps seen.1,
 )
+
+pub bytes_later : (races : Bool) (a b c : Sightings) (addrs bytes : List ℕ) → Loads races b c → AreBytesSeen a b addrs bytes
+    → AreBytesSeen a c addrs bytes
+bytes_later races a b c addrs bytes loads = bytes_by a b a c addrs bytes (λ m. seen_later races a b c m loads)
 
 pub bytes_sooner : (races : Bool) (a b c : Sightings) (addrs bytes : List ℕ) → Loads races a b → AreBytesSeen b c addrs bytes
     → AreBytesSeen a c addrs bytes
-bytes_sooner races a b c [] [] loads seen = tt
-bytes_sooner races a b c [] (x ∷ bytes) loads seen = absurd seen
-bytes_sooner races a b c (at ∷ addrs) [] loads seen = absurd seen
-bytes_sooner races a b c (at ∷ addrs) (x ∷ bytes) loads seen = (
-  record {
-    where_read = seen.0.where_read;
-    seen = seen_sooner races a b c seen.0.where_read loads seen.0.seen;
-    is = seen.0.is;
-  },
-  bytes_sooner races a b c addrs bytes loads seen.1,
-)
+bytes_sooner races a b c addrs bytes loads = bytes_by b c a c addrs bytes (λ m. seen_sooner races a b c m loads)
 
 -- there are as many as addresses
 pub bytes_count : (a b : Sightings) (addrs bytes : List ℕ) → AreBytesSeen a b addrs bytes → length bytes ≡ length addrs

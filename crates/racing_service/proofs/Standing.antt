@@ -13,7 +13,7 @@ use Rattle.chain.specs.Service.{Device, Does, scattered, wrote}
 use Rattle.chain.proofs.Directions.{All-segments_of}
 use Rattle.chain.proofs.Partial.{scattered-nil}
 use Rattle.shared_memory.specs.Sightings.{Sightings, Loads, memory}
-use Rattle.shared_memory.proofs.Sightings.{interference_range, loads_range, same_self, seen_still}
+use Rattle.shared_memory.proofs.Sightings.{interference_range, loads_range, same_self}
 use Rattle.racing_service.specs.Device.{AreBytesSeen, DoesRaced, Part, StoresParts}
 use Rattle.racing_service.specs.LeftAlone.{IsSteady}
 
@@ -54,19 +54,6 @@ bytes_at-range m a (suc n) above =
     ap (λ (bytes : List ℕ). part_of m a 1 ++ bytes) (bytes_at-range m (a + 1) n (omega (arith, above)))
     ∙ sym (part_more m a n above)
 
--- what was seen is what stands there
-seen_is : (old new : Sightings) (addrs bytes : List ℕ) → Loads false old new → AreBytesSeen old new addrs bytes
-    → bytes ≡ bytes_at (memory old) addrs
-unfolding bytes_at
-seen_is old new [] [] loads seen = refl
-seen_is old new [] (x ∷ bytes) loads seen = absurd seen
-seen_is old new (a ∷ addrs) [] loads seen = absurd seen
-seen_is old new (a ∷ addrs) (x ∷ bytes) loads seen =
-    let here = seen.0 in
-    let same : part_of (memory old) a 1 ≡ x ∷ [] =
-    ap (λ (m : Memory). part_of m a 1) (sym (seen_still old new here.where_read loads here.seen)) ∙ here.is in
-    rw (same, ← seen_is old new addrs bytes loads seen.1) refl
-
 segments_at : (m : Memory) (segments : List Segment) → All (λ s. Inside m s.addr s.len) segments
     → bytes_at m (flat_map addresses segments) ≡ flat_map (λ s. part_of m s.addr s.len) segments
 unfolding bytes_at
@@ -81,14 +68,7 @@ readable_at : (m : Memory) (buffers : List Buffer) → All (Within m) buffers
     → bytes_at m (addresses_of false buffers) ≡ readable_of m buffers
 readable_at m buffers inside = segments_at m (segments_of false buffers) (All-segments_of m false buffers inside)
 
--- so what was copied of the readable list is what stands there
-pub read_still : (old new : Sightings) (buffers : List Buffer) (readable : List ℕ) → All (Within (memory old)) buffers
-    → Loads false old new → AreBytesSeen old new (addresses_of false buffers) readable
-    → readable ≡ readable_of (memory old) buffers
-read_still old new buffers readable inside loads seen =
-    seen_is old new (addresses_of false buffers) readable loads seen ∙ readable_at (memory old) buffers inside
-
--- and where each byte stays as it is while they are read
+-- where each byte stays as it is while they are read, what was seen is what stands there
 steady_is : (old new : Sightings) (addrs bytes : List ℕ) → AllByRecursion (IsSteady old new) addrs
     → AreBytesSeen old new addrs bytes → bytes ≡ bytes_at (memory old) addrs
 unfolding bytes_at
@@ -108,6 +88,19 @@ pub read_steady : (old new : Sightings) (buffers : List Buffer) (readable : List
 read_steady old new buffers readable inside steady seen =
     let each = recursion_from_All (IsSteady old new) (addresses_of false buffers) steady in
     steady_is old new (addresses_of false buffers) readable each seen ∙ readable_at (memory old) buffers inside
+
+-- so it is of a guest that stands still
+still_steady : (old new : Sightings) (addrs : List ℕ) → Loads false old new → AllByRecursion (IsSteady old new) addrs
+still_steady old new [] loads = tt
+still_steady old new (a ∷ addrs) loads =
+    (λ k from to. ap (λ (m : Memory). part_of m a 1) (loads.interference k from to), still_steady old new addrs loads)
+
+pub read_still : (old new : Sightings) (buffers : List Buffer) (readable : List ℕ) → All (Within (memory old)) buffers
+    → Loads false old new → AreBytesSeen old new (addresses_of false buffers) readable
+    → readable ≡ readable_of (memory old) buffers
+read_still old new buffers readable inside loads seen =
+    let steady = still_steady old new (addresses_of false buffers) loads in
+    steady_is old new (addresses_of false buffers) readable steady seen ∙ readable_at (memory old) buffers inside
 
 -- ---- writing
 

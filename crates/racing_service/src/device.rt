@@ -47,13 +47,12 @@ pub trait RacingDevice<B> {
     ) -> Result<Used, Self::Refusal>
         requires good { Good (memory (M.sightings mem.old)) chain.now }
         requires ready { IsReady self.old backend.old }
-        ensures does { IfOk result (λ used. DoesRaced (device (setup self.old backend.old)) (M.races mem.old)
+        ensures does { IfOk result (λ used. DoesRaced (device (setup self.old backend.old)) M.races
             (M.sightings mem.old) (M.sightings mem.new) chain.now (state self.old backend.old)
             (state self.new backend.new) used.len used.wrote) }
-        ensures refuses { IfErr result (RefusesRaced (Refuses (setup self.old backend.old) backend.new) (M.races mem.old)
+        ensures refuses { IfErr result (RefusesRaced (Refuses (setup self.old backend.old) backend.new) M.races
             (M.sightings mem.old) (M.sightings mem.new) chain.now (state self.old backend.old)) }
         ensures kept { OnErr result (state self.new backend.new ≡ state self.old backend.old) }
-        ensures races { M.races mem.new ≡ M.races mem.old }
         ensures setup { setup self.new backend.new ≡ setup self.old backend.old }
         ensures ready { IsReady self.new backend.new };
 }

@@ -102,18 +102,17 @@ pub fn serve<B, D: RacingDevice<B>, Q: RacingQueue, M: Shared>(
 ) -> Result<Outcome, Refused<Q::Token, D::Refusal>>
     requires queue { Q.LiesIn (memory (M.sightings mem.old)) queue.old }
     requires ready { D.IsReady device.old backend.old }
-    ensures service { IfOk result (λ outcome. IsRacingService Q.kind (D.device (D.setup device.old backend.old)) (M.races mem.old) stage limits.rounds
+    ensures service { IfOk result (λ outcome. IsRacingService Q.kind (D.device (D.setup device.old backend.old)) M.races stage limits.rounds
         (standing_at (M.sightings mem.old) queue.old (D.state device.old backend.old) limits.budget)
         (standing_at (M.sightings mem.new) queue.new (D.state device.new backend.new) outcome.left)
         outcome.ending outcome.wanted) }
-    ensures refuses { IfErr result (λ refused. IsRefusedService Q.kind (D.device (D.setup device.old backend.old)) (M.races mem.old)
+    ensures refuses { IfErr result (λ refused. IsRefusedService Q.kind (D.device (D.setup device.old backend.old)) M.races
         (D.Refuses (D.setup device.old backend.old) backend.new) stage limits.rounds
         (standing_at (M.sightings mem.old) queue.old (D.state device.old backend.old) limits.budget)
         (standing_at (M.sightings mem.new) queue.new (D.state device.new backend.new) refused.left)
         chain.new (Q.entry_of refused.token) refused.why refused.wanted) }
     ensures taken { IfErr result (λ refused. Q.IsTaken queue.new refused.token) }
     ensures good { OnErr result (Good (memory (M.sightings mem.new)) chain.new) }
-    ensures races { M.races mem.new ≡ M.races mem.old }
     ensures setup { D.setup device.new backend.new ≡ D.setup device.old backend.old }
     ensures ready { D.IsReady device.new backend.new }
     ensures lies { Q.LiesIn (memory (M.sightings mem.new)) queue.new }
@@ -189,16 +188,15 @@ fn run<B, D: RacingDevice<B>, Q: RacingQueue, M: Shared>(
 ) -> Result<Stop, Held<Q::Token, D::Refusal>>
     requires queue { Q.LiesIn (memory (M.sightings mem.old)) queue.old }
     requires ready { D.IsReady device.old backend.old }
-    ensures runs { IfOk result (λ stop. RunsAs Q.kind (D.device (D.setup device.old backend.old)) (M.races mem.old) stage stop
+    ensures runs { IfOk result (λ stop. RunsAs Q.kind (D.device (D.setup device.old backend.old)) M.races stage stop
         (standing_at (M.sightings mem.old) queue.old (D.state device.old backend.old) left.old)
         (standing_at (M.sightings mem.new) queue.new (D.state device.new backend.new) left.new)) }
-    ensures leaves { IfErr result (λ held. RunsUpTo Q.kind (D.device (D.setup device.old backend.old)) (M.races mem.old)
+    ensures leaves { IfErr result (λ held. RunsUpTo Q.kind (D.device (D.setup device.old backend.old)) M.races
         (D.Refuses (D.setup device.old backend.old) backend.new) stage chain.new (Q.entry_of held.token) held.why
         (standing_at (M.sightings mem.old) queue.old (D.state device.old backend.old) left.old)
         (standing_at (M.sightings mem.new) queue.new (D.state device.new backend.new) left.new)) }
     ensures taken { IfErr result (λ held. Q.IsTaken queue.new held.token) }
     ensures good { OnErr result (Good (memory (M.sightings mem.new)) chain.new) }
-    ensures races { M.races mem.new ≡ M.races mem.old }
     ensures setup { D.setup device.new backend.new ≡ D.setup device.old backend.old }
     ensures ready { D.IsReady device.new backend.new }
     ensures lies { Q.LiesIn (memory (M.sightings mem.new)) queue.new }
@@ -221,16 +219,15 @@ fn serve_chains<B, D: RacingDevice<B>, Q: RacingQueue, M: Shared>(
 ) -> Result<Stop, Held<Q::Token, D::Refusal>>
     requires queue { Q.LiesIn (memory (M.sightings mem.old)) queue.old }
     requires ready { D.IsReady device.old backend.old }
-    ensures serves { IfOk result (λ stop. ServesAs Q.kind (D.device (D.setup device.old backend.old)) (M.races mem.old) stop
+    ensures serves { IfOk result (λ stop. ServesAs Q.kind (D.device (D.setup device.old backend.old)) M.races stop
         (standing_at (M.sightings mem.old) queue.old (D.state device.old backend.old) left.old)
         (standing_at (M.sightings mem.new) queue.new (D.state device.new backend.new) left.new)) }
-    ensures leaves { IfErr result (λ held. ServesUpTo Q.kind (D.device (D.setup device.old backend.old)) (M.races mem.old)
+    ensures leaves { IfErr result (λ held. ServesUpTo Q.kind (D.device (D.setup device.old backend.old)) M.races
         (D.Refuses (D.setup device.old backend.old) backend.new) chain.new (Q.entry_of held.token) held.why
         (standing_at (M.sightings mem.old) queue.old (D.state device.old backend.old) left.old)
         (standing_at (M.sightings mem.new) queue.new (D.state device.new backend.new) left.new)) }
     ensures taken { IfErr result (λ held. Q.IsTaken queue.new held.token) }
     ensures good { OnErr result (Good (memory (M.sightings mem.new)) chain.new) }
-    ensures races { M.races mem.new ≡ M.races mem.old }
     ensures setup { D.setup device.new backend.new ≡ D.setup device.old backend.old }
     ensures ready { D.IsReady device.new backend.new }
     ensures lies { Q.LiesIn (memory (M.sightings mem.new)) queue.new }

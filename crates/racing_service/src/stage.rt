@@ -28,8 +28,7 @@ impl Stage {
         mem: &mut M,
     ) -> Result<(), Fault>
         requires { Q.LiesIn (memory (M.sightings mem.old)) queue.old }
-        ensures loads { Loads (M.races mem.old) (M.sightings mem.old) (M.sightings mem.new) }
-        ensures races { M.races mem.new ≡ M.races mem.old }
+        ensures loads { Loads M.races (M.sightings mem.old) (M.sightings mem.new) }
         ensures fault { result_err result ≡ fault_at Q.kind self (memory (M.sightings mem.new)) queue.old }
         ensures opened { queue.new ≡ opened_at Q.kind self (memory (M.sightings mem.new)) queue.old }
         ensures lies { Q.LiesIn (memory (M.sightings mem.new)) queue.new }

@@ -1,6 +1,6 @@
 //! A row of bytes that a device stores in the writable places of a chain, one after another.
 
-ghost use Rattle.std.specs.Prelude.{◌≡◌, ◌+◌, ◌≤◌, length, take, drop};
+ghost use Rattle.std.specs.Prelude.{◌+◌, ◌≤◌, length, take, drop};
 ghost use Rattle.std.specs.List.{range_with_len};
 ghost use Rattle.guest_memory.specs.Memory.{Inside, SameRange};
 ghost use Rattle.chain.specs.Buffers.{Good};
@@ -22,9 +22,8 @@ pub fn store_in_chain<M: Shared>(
 )
     requires good { Good (memory (M.sightings mem.old)) chain.now }
     requires range { from + length bytes.now ≤ length (writable_of chain.now) }
-    ensures stored { StoresEach (M.races mem.old) (M.sightings mem.old) (M.sightings mem.new)
+    ensures stored { StoresEach M.races (M.sightings mem.old) (M.sightings mem.new)
         (take (length bytes.now) (drop from (writable_of chain.now))) bytes.now }
-    ensures races { M.races mem.new ≡ M.races mem.old }
     ensures range { SameRange (memory (M.sightings mem.old)) (memory (M.sightings mem.new)) }
 {
     // What it ensures: no place passes 2^32.
@@ -42,9 +41,8 @@ pub fn store_in_chain<M: Shared>(
 /// Stores bytes from an address on, each by a step of its own.
 fn store_run<M: Shared>(mem: &mut M, addr: u64, bytes: &[u8])
     requires { Inside (memory (M.sightings mem.old)) addr (length bytes.now) }
-    ensures stored { StoresEach (M.races mem.old) (M.sightings mem.old) (M.sightings mem.new)
+    ensures stored { StoresEach M.races (M.sightings mem.old) (M.sightings mem.new)
         (range_with_len addr (length bytes.now)) bytes.now }
-    ensures races { M.races mem.new ≡ M.races mem.old }
     ensures range { SameRange (memory (M.sightings mem.old)) (memory (M.sightings mem.new)) }
 {
     // So no address passes 2^64.

@@ -1,20 +1,17 @@
 -- Chains in flight last in a ready queue of either layout, as they do in its ring.
-use Rattle.std.specs.Prelude.{◌≡◌, ℕ, ◌+◌, ◌-◌, ◌≤◌, Bool}
+use Rattle.std.specs.Prelude.{◌≡◌, ℕ, ◌+◌, ◌-◌, ◌≤◌}
 use Rattle.std.proofs.Common.{refl}
-use Rattle.guest_memory.specs.Memory.{Memory, SameRange}
 use Rattle.chain.specs.declared.state.RingState.{RingState}
-use Rattle.chain.specs.Service.{Entry}
 use Rattle.split_ring.specs.Kind.{split_kind}
 use Rattle.packed_ring.specs.Kind.{packed_kind}
 use Rattle.mmio_window.specs.declared.queue.Queue.{Queue}
 use Rattle.mmio_window.specs.declared.queue.Queue.TheVariants.{Split, Packed}
 use Rattle.mmio_window.specs.declared.queue.Token.{Token}
 use Rattle.mmio_window.specs.declared.queue.Token.TheVariants as token
-use Rattle.mmio_window.specs.Queue.{Fits, IsAhead, ahead_of, entry_of, landed, launched, opened, past, shut, stopped}
-use Rattle.shared_memory.specs.Sightings.{Sightings, memory}
+use Rattle.mmio_window.specs.Queue.{Fits, IsAhead, ahead_of, entry_of, landed, launched}
 use Rattle.racing_service.specs.Flights.{FlightLaws, Stays}
 use Rattle.racing_service.specs.Lasting.{packed_lasts, split_lasts}
-use Rattle.racing_window.specs.Queue.{IsClosed, IsGiven, racing_queue}
+use Rattle.racing_window.specs.Queue.{racing_queue}
 
 -- ---- which tokens fit turns on the queue's layout and size alone
 
@@ -36,32 +33,6 @@ packed_stays : (a b : RingState) → ((n : ℕ) → n ≤ a.setup.size → n ≤
     → Stays Fits ahead_of (Packed a) (Packed b)
 packed_stays a b more less same =
     record { fits = λ t. (packed_fits a b more t, packed_fits b a less t); ahead = same }
-
--- ---- each move of a queue
-
-opened_stays : (m : Memory) (queue : Queue) → Stays Fits ahead_of queue (opened m queue)
-opened_stays m (Split ring) = split_stays ring (split_kind.opened m ring) refl
-opened_stays m (Packed ring) = packed_stays ring (packed_kind.opened m ring) (λ n f. f) (λ n f. f) refl
-
-past_stays : (queue : Queue) (entry : Entry) → Stays Fits ahead_of queue (past queue entry)
-past_stays (Split ring) entry = split_stays ring (split_kind.past ring entry) refl
-past_stays (Packed ring) entry = packed_stays ring (packed_kind.past ring entry) (λ n f. f) (λ n f. f) refl
-
-stopped_stays : (queue : Queue) → Stays Fits ahead_of queue (stopped queue)
-stopped_stays (Split ring) = split_stays ring (split_kind.stopped ring) refl
-stopped_stays (Packed ring) = packed_stays ring (packed_kind.stopped ring) (λ n f. f) (λ n f. f) refl
-
-shut_stays : (queue : Queue) → Stays Fits ahead_of queue (shut queue)
-shut_stays (Split ring) = split_stays ring (split_kind.shut ring) refl
-shut_stays (Packed ring) = packed_stays ring (packed_kind.shut ring) (λ n f. f) (λ n f. f) refl
-
-launched_fits : (queue : Queue) (entry : Entry) (t : Token) → Fits queue t → Fits (launched queue entry) t
-launched_fits (Split ring) entry t f = split_fits ring (split_kind.launched ring entry) t f
-launched_fits (Packed ring) entry t f = packed_fits ring (packed_kind.launched ring entry) (λ n most. most) t f
-
-landed_fits : (queue : Queue) (entry : Entry) (t : Token) → Fits queue t → Fits (landed queue entry) t
-landed_fits (Split ring) entry t f = split_fits ring (split_kind.landed ring entry) t f
-landed_fits (Packed ring) entry t f = packed_fits ring (packed_kind.landed ring entry) (λ n most. most) t f
 
 -- ---- what is in flight
 
@@ -91,32 +62,42 @@ is_ahead (Packed ring) (token.Packed t) f some = packed_lasts.is_ahead ring t f 
 is_ahead (Split ring) (token.Packed t) f some = absurd f
 is_ahead (Packed ring) (token.Split t) f some = absurd f
 
--- ---- the memory's range
-
-given_range : (races : Bool) (old new : Sightings) (queue : Queue) (entry : Entry) (len : ℕ) (wrote : Bool)
-    → IsGiven races old new queue entry len wrote → SameRange (memory old) (memory new)
-given_range races old new (Split ring) entry len wrote given =
-    split_lasts.given_range races old new ring entry len wrote given
-given_range races old new (Packed ring) entry len wrote given =
-    packed_lasts.given_range races old new ring entry len wrote given
-
-closed_range : (races : Bool) (old new : Sightings) (queue : Queue) (wanted : Bool)
-    → IsClosed races old new queue wanted → SameRange (memory old) (memory new)
-closed_range races old new (Split ring) wanted closed = split_lasts.closed_range races old new ring wanted closed
-closed_range races old new (Packed ring) wanted closed = packed_lasts.closed_range races old new ring wanted closed
-
 pub queue_lasts : FlightLaws racing_queue entry_of IsAhead Fits ahead_of
 queue_lasts = record {
-  opened = opened_stays;
-  past = past_stays;
-  stopped = stopped_stays;
-  shut = shut_stays;
+  opened = λ m. elim [
+    | Split ring ↦ split_stays ring (split_kind.opened m ring) refl
+    | Packed ring ↦ packed_stays ring (packed_kind.opened m ring) (λ n f. f) (λ n f. f) refl
+  ];
+  past = elim [
+    | Split ring ↦ λ entry. split_stays ring (split_kind.past ring entry) refl
+    | Packed ring ↦ λ entry. packed_stays ring (packed_kind.past ring entry) (λ n f. f) (λ n f. f) refl
+  ];
+  stopped = elim [
+    | Split ring ↦ split_stays ring (split_kind.stopped ring) refl
+    | Packed ring ↦ packed_stays ring (packed_kind.stopped ring) (λ n f. f) (λ n f. f) refl
+  ];
+  shut = elim [
+    | Split ring ↦ split_stays ring (split_kind.shut ring) refl
+    | Packed ring ↦ packed_stays ring (packed_kind.shut ring) (λ n f. f) (λ n f. f) refl
+  ];
   ahead_fits = ahead_fits;
-  launched_fits = launched_fits;
+  launched_fits = elim [
+    | Split ring ↦ λ entry. split_fits ring (split_kind.launched ring entry)
+    | Packed ring ↦ λ entry. packed_fits ring (packed_kind.launched ring entry) (λ n most. most)
+  ];
   launched_ahead = launched_ahead;
-  landed_fits = landed_fits;
+  landed_fits = elim [
+    | Split ring ↦ λ entry. split_fits ring (split_kind.landed ring entry)
+    | Packed ring ↦ λ entry. packed_fits ring (packed_kind.landed ring entry) (λ n most. most)
+  ];
   landed_ahead = landed_ahead;
   is_ahead = is_ahead;
-  given_range = given_range;
-  closed_range = closed_range;
+  given_range = λ races old new. elim [
+    | Split ring ↦ split_lasts.given_range races old new ring
+    | Packed ring ↦ packed_lasts.given_range races old new ring
+  ];
+  closed_range = λ races old new. elim [
+    | Split ring ↦ split_lasts.closed_range races old new ring
+    | Packed ring ↦ packed_lasts.closed_range races old new ring
+  ];
 }

@@ -35,16 +35,15 @@ pub fn serve_queue<B, D: RacingDevice<B>, M: Shared>(
 ) -> Result<Progress, Refused<Token, D::Refusal>>
     requires sound { IsSound (memory (M.sightings mem.old)) window.old }
     requires ready { D.IsReady device.old backend.old }
-    ensures served { IfOk result (λ progress. Notified (D.device (D.setup device.old backend.old)) (M.races mem.old) limits.rounds q
+    ensures served { IfOk result (λ progress. Notified (D.device (D.setup device.old backend.old)) M.races limits.rounds q
         limits.budget (queue_at q window.old) progress (M.sightings mem.old) (M.sightings mem.new) window.old window.new
         (D.state device.old backend.old) (D.state device.new backend.new)) }
     ensures left { IfErr result (λ refused. IsLeft (D.device (D.setup device.old backend.old))
-        (D.Refuses (D.setup device.old backend.old) backend.new) (M.races mem.old) limits.rounds q
+        (D.Refuses (D.setup device.old backend.old) backend.new) M.races limits.rounds q
         limits.budget (queue_at q window.old) chain.new refused (M.sightings mem.old) (M.sightings mem.new) window.old window.new
         (D.state device.old backend.old) (D.state device.new backend.new)) }
     ensures taken { IfErr result (λ refused. IfSome (queue_at q window.new) (λ queue. IsTaken queue refused.token)) }
     ensures good { OnErr result (Good (memory (M.sightings mem.new)) chain.new) }
-    ensures races { M.races mem.new ≡ M.races mem.old }
     ensures setup { D.setup device.new backend.new ≡ D.setup device.old backend.old }
     ensures ready { D.IsReady device.new backend.new }
     ensures range { SameRange (memory (M.sightings mem.old)) (memory (M.sightings mem.new)) }
@@ -76,18 +75,17 @@ fn serve_ready<B, D: RacingDevice<B>, M: Shared>(
 ) -> Result<Outcome, Refused<Token, D::Refusal>>
     requires queue { LiesIn (memory (M.sightings mem.old)) queue.old }
     requires ready { D.IsReady device.old backend.old }
-    ensures service { IfOk result (λ outcome. IsRacingService racing_queue (D.device (D.setup device.old backend.old)) (M.races mem.old) First limits.rounds
+    ensures service { IfOk result (λ outcome. IsRacingService racing_queue (D.device (D.setup device.old backend.old)) M.races First limits.rounds
         (standing_at (M.sightings mem.old) queue.old (D.state device.old backend.old) limits.budget)
         (standing_at (M.sightings mem.new) queue.new (D.state device.new backend.new) outcome.left)
         outcome.ending outcome.wanted) }
-    ensures refuses { IfErr result (λ refused. IsRefusedService racing_queue (D.device (D.setup device.old backend.old)) (M.races mem.old)
+    ensures refuses { IfErr result (λ refused. IsRefusedService racing_queue (D.device (D.setup device.old backend.old)) M.races
         (D.Refuses (D.setup device.old backend.old) backend.new) First limits.rounds
         (standing_at (M.sightings mem.old) queue.old (D.state device.old backend.old) limits.budget)
         (standing_at (M.sightings mem.new) queue.new (D.state device.new backend.new) refused.left)
         chain.new (entry_of refused.token) refused.why refused.wanted) }
     ensures taken { IfErr result (λ refused. IsTaken queue.new refused.token) }
     ensures good { OnErr result (Good (memory (M.sightings mem.new)) chain.new) }
-    ensures races { M.races mem.new ≡ M.races mem.old }
     ensures setup { D.setup device.new backend.new ≡ D.setup device.old backend.old }
     ensures ready { D.IsReady device.new backend.new }
     ensures range { SameRange (memory (M.sightings mem.old)) (memory (M.sightings mem.new)) }

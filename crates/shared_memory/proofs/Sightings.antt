@@ -76,13 +76,6 @@ seen_sooner races a b c m l s = record {
   is = s.is;
 }
 
--- what was seen has the range
-pub seen_range : (races : Bool) (old new : Sightings) (m : Memory) → Loads races old new → SeenAs old new m
-    → SameRange (memory old) m
-seen_range races old new m l s =
-    subst (λ (m : Memory). SameRange (memory old) m) (sym s.is)
-    (interference_range races (memory old) (new.at s.place) (l.interference s.place s.from s.to))
-
 -- a guest that stands still is seen as one memory
 pub seen_still : (old new : Sightings) (m : Memory) → Loads false old new → SeenAs old new m → m ≡ memory old
 seen_still old new m l s = s.is ∙ l.interference s.place s.from s.to
@@ -94,12 +87,7 @@ stores_range races old new a k v s =
     same_trans (memory old) s.before (memory new) (interference_range races (memory old) s.before s.interference)
     (subst (λ (m : Memory). SameRange s.before m) (sym s.stored) (put_range s.before a (little_bytes k v)))
 
--- what lies in the memory does after reads and stores
+-- what lies in the memory does after reads
 pub inside_loads : (races : Bool) (old new : Sightings) (a n : ℕ) → Loads races old new → Inside (memory old) a n
     → Inside (memory new) a n
 inside_loads races old new a n l h = inside_same (memory old) (memory new) a n (loads_range races old new l) h
-
-pub inside_stores : (races : Bool) (old new : Sightings) (a k v b n : ℕ) → Stores races old new a k v
-    → Inside (memory old) b n → Inside (memory new) b n
-inside_stores races old new a k v b n s h =
-    inside_same (memory old) (memory new) b n (stores_range races old new a k v s) h

@@ -13,7 +13,7 @@ pub trait Shared {
     ghost sightings: { Self → Sightings };
 
     // whether the guest's own CPUs may write it at any moment
-    ghost races: { Self → Bool };
+    ghost races: { Bool };
 
     /// Whether the `n` bytes from `addr` on all lie in the memory, in one region.
     fn holds(&self, addr: u64, n: u64) -> bool
@@ -29,46 +29,40 @@ pub trait Shared {
     fn load_u16(&mut self, addr: u64) -> u16
         requires { Inside (memory (sightings self.old)) addr 2 }
         ensures value { result ≡ num (memory (sightings self.new)) addr 2 }
-        ensures loads { Loads (races self.old) (sightings self.old) (sightings self.new) }
-        ensures races { races self.new ≡ races self.old };
+        ensures loads { Loads races (sightings self.old) (sightings self.new) };
 
     /// Copies the bytes from `addr` on into all of `into`.
     fn load(&mut self, addr: u64, into: &mut [u8])
         requires { Inside (memory (sightings self.old)) addr (length into.old) }
         ensures value { into.new ≡ part_of (memory (sightings self.new)) addr (length into.old) }
-        ensures loads { Loads (races self.old) (sightings self.old) (sightings self.new) }
-        ensures races { races self.new ≡ races self.old };
+        ensures loads { Loads races (sightings self.old) (sightings self.new) };
 
     /// Stores a byte.
     fn store_u8(&mut self, addr: u64, v: u8)
         requires { Inside (memory (sightings self.old)) addr 1 }
-        ensures stores { Stores (races self.old) (sightings self.old) (sightings self.new) addr 1 v }
-        ensures races { races self.new ≡ races self.old };
+        ensures stores { Stores races (sightings self.old) (sightings self.new) addr 1 v };
 
     /// Stores a 16-bit number.
     fn store_u16(&mut self, addr: u64, v: u16)
         requires { Inside (memory (sightings self.old)) addr 2 }
-        ensures stores { Stores (races self.old) (sightings self.old) (sightings self.new) addr 2 v }
-        ensures races { races self.new ≡ races self.old };
+        ensures stores { Stores races (sightings self.old) (sightings self.new) addr 2 v };
 
     /// Stores a 32-bit number.
     fn store_u32(&mut self, addr: u64, v: u32)
         requires { Inside (memory (sightings self.old)) addr 4 }
-        ensures stores { Stores (races self.old) (sightings self.old) (sightings self.new) addr 4 v }
-        ensures races { races self.new ≡ races self.old };
+        ensures stores { Stores races (sightings self.old) (sightings self.new) addr 4 v };
 
     /// Stores a 64-bit number.
     fn store_u64(&mut self, addr: u64, v: u64)
         requires { Inside (memory (sightings self.old)) addr 8 }
-        ensures stores { Stores (races self.old) (sightings self.old) (sightings self.new) addr 8 v }
-        ensures races { races self.new ≡ races self.old };
+        ensures stores { Stores races (sightings self.old) (sightings self.new) addr 8 v };
 }
 
 /// A guest that stands still during the calls of its devices.
 impl<A: Allocator> Shared for GuestMemory<A> {
     ghost sightings = { λ m. still m };
 
-    ghost races = { λ m. false };
+    ghost races = { false };
 
     fn holds(&self, addr: u64, n: u64) -> bool {
         GuestMemory::holds(self, addr, n)

@@ -33,10 +33,9 @@ pub(super) fn look<M: Shared, A: Allocator>(
     room: &mut Room,
 ) -> Progress
     requires sound { IsSoundBlock (memory (M.sightings mem.old)) (record { window = window.old; disk = disk.old }) }
-    ensures serves { NotifiesBlock (M.races mem.old) limits (queue_at 0 window.old) (M.sightings mem.old) (M.sightings mem.new)
+    ensures serves { NotifiesBlock M.races limits (queue_at 0 window.old) (M.sightings mem.old) (M.sightings mem.new)
         (record { window = window.old; disk = disk.old }) (record { window = window.new; disk = disk.new }) result }
     ensures range { SameRange (memory (M.sightings mem.old)) (memory (M.sightings mem.new)) }
-    ensures races { M.races mem.new ≡ M.races mem.old }
     ensures sound { IsSoundBlock (memory (M.sightings mem.new)) (record { window = window.new; disk = disk.new }) }
 {
     let stable = wants_stable(window);
@@ -62,14 +61,13 @@ pub(super) fn told<M: Shared, A: Allocator>(
 ) -> Option<Progress>
     requires sound { IsSoundBlock (memory (M.sightings mem.old)) (record { window = window.old; disk = disk.old }) }
     ensures found { is_some result ≡ has_effect said disk.old }
-    ensures does { IfSome result (IsToldBy said (M.races mem.old) limits (queue_at 0 window.old) (M.sightings mem.old)
+    ensures does { IfSome result (IsToldBy said M.races limits (queue_at 0 window.old) (M.sightings mem.old)
         (M.sightings mem.new) (record { window = window.old; disk = disk.old })
         (record { window = window.new; disk = disk.new })) }
     ensures kept { IfNone result (disk.new ≡ disk.old) }
     ensures untouched { IfNone result (window.new ≡ window.old) }
     ensures unwritten { IfNone result (M.sightings mem.new ≡ M.sightings mem.old) }
     ensures range { SameRange (memory (M.sightings mem.old)) (memory (M.sightings mem.new)) }
-    ensures races { M.races mem.new ≡ M.races mem.old }
     ensures sound { IsSoundBlock (memory (M.sightings mem.new)) (record { window = window.new; disk = disk.new }) }
 {
     let stable = wants_stable(window);

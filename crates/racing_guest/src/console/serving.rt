@@ -30,11 +30,10 @@ pub(super) fn receive<M: Shared, A: Allocator>(
     room: &mut Room,
 ) -> Progress
     requires sound { IsSound (memory (M.sightings mem.old)) window.old }
-    ensures notified { Notified queues.receive (M.races mem.old) limits.rounds 0 limits.budget (queue_at 0 window.old) result
+    ensures notified { Notified queues.receive M.races limits.rounds 0 limits.budget (queue_at 0 window.old) result
         (M.sightings mem.old) (M.sightings mem.new) window.old window.new console.old.pending console.new.pending }
     ensures size { console.new ≡ record console.old { pending = console.new.pending } }
     ensures range { SameRange (memory (M.sightings mem.old)) (memory (M.sightings mem.new)) }
-    ensures races { M.races mem.new ≡ M.races mem.old }
     ensures sound { IsSound (memory (M.sightings mem.new)) window.new }
 {
     match serve_queue(window, RECEIVEQ, device, console, mem, limits, chain, room) {
@@ -54,14 +53,13 @@ pub(super) fn transmit<M: Shared, O: Outlet>(
     out: &mut O,
 ) -> Result<Progress, NoMemory>
     requires sound { IsSound (memory (M.sightings mem.old)) window.old }
-    ensures notified { IfOk result (λ progress. Notified (queues.transmit_within (O.limit out.old)) (M.races mem.old)
+    ensures notified { IfOk result (λ progress. Notified (queues.transmit_within (O.limit out.old)) M.races
         limits.rounds 1 limits.budget (queue_at 1 window.old) progress (M.sightings mem.old) (M.sightings mem.new) window.old
         window.new (O.bytes out.old) (O.bytes out.new)) }
-    ensures refused { OnErr result (TransmitsUpTo (M.races mem.old) limits (O.limit out.old) (queue_at 1 window.old)
+    ensures refused { OnErr result (TransmitsUpTo M.races limits (O.limit out.old) (queue_at 1 window.old)
         (M.sightings mem.old) (M.sightings mem.new) window.old window.new (O.bytes out.old) (O.bytes out.new)) }
     ensures limit { O.limit out.new ≡ O.limit out.old }
     ensures range { SameRange (memory (M.sightings mem.old)) (memory (M.sightings mem.new)) }
-    ensures races { M.races mem.new ≡ M.races mem.old }
     ensures sound { IsSound (memory (M.sightings mem.new)) window.new }
 {
     match serve_queue(window, TRANSMITQ, device, out, mem, limits, chain, room) {
@@ -77,10 +75,9 @@ pub(super) fn transmit<M: Shared, O: Outlet>(
 fn close<M: Shared>(window: &mut Window, before: bool, mem: &mut M, chain: &mut Chain)
     requires there { IsSome (queue_at 1 window.old) }
     requires sound { IsSound (memory (M.sightings mem.old)) window.old }
-    ensures closes { ClosesLeft (M.races mem.old) (queue_at 1 window.old) before (M.sightings mem.old) (M.sightings mem.new)
+    ensures closes { ClosesLeft M.races (queue_at 1 window.old) before (M.sightings mem.old) (M.sightings mem.new)
         window.old window.new }
     ensures range { SameRange (memory (M.sightings mem.old)) (memory (M.sightings mem.new)) }
-    ensures races { M.races mem.new ≡ M.races mem.old }
     ensures sound { IsSound (memory (M.sightings mem.new)) window.new }
 {
     let Some(queue) = window.queue(TRANSMITQ) else {

@@ -26,10 +26,9 @@ impl<A: Allocator> RacingGuest<A> {
     ) -> (usize, Progress)
         requires sound { IsSoundGuest (memory (M.sightings mem.old)) self.old }
         ensures count { result.0 ≡ fitting self.old.console.device.pending bytes.now }
-        ensures takes { TakesInput bytes.now (M.races mem.old) limits (M.sightings mem.old) (M.sightings mem.new)
+        ensures takes { TakesInput bytes.now M.races limits (M.sightings mem.old) (M.sightings mem.new)
             self.old self.new result.1 }
         ensures range { SameRange (memory (M.sightings mem.old)) (memory (M.sightings mem.new)) }
-        ensures races { M.races mem.new ≡ M.races mem.old }
         ensures sound { IsSoundGuest (memory (M.sightings mem.new)) self.new }
     {
         let taken = self.console.input(bytes);
@@ -57,12 +56,11 @@ impl<A: Allocator> RacingGuest<A> {
     ) -> Option<Progress>
         requires sound { IsSoundGuest (memory (M.sightings mem.old)) self.old }
         ensures found { is_some result ≡ has_effect said self.old.block.disk }
-        ensures does { IfSome result (IsTold said (M.races mem.old) limits (M.sightings mem.old) (M.sightings mem.new)
+        ensures does { IfSome result (IsTold said M.races limits (M.sightings mem.old) (M.sightings mem.new)
             self.old self.new) }
         ensures kept { IfNone result (self.new ≡ self.old) }
         ensures unwritten { IfNone result (M.sightings mem.new ≡ M.sightings mem.old) }
         ensures range { SameRange (memory (M.sightings mem.old)) (memory (M.sightings mem.new)) }
-        ensures races { M.races mem.new ≡ M.races mem.old }
         ensures sound { IsSoundGuest (memory (M.sightings mem.new)) self.new }
     {
         let chain = &mut *self.chain;

@@ -1,6 +1,6 @@
 //! The closing write, and whether the driver is to be notified.
 
-ghost use Rattle.std.specs.Prelude.{◌≡◌, ◌↔◌, ◌+◌, ◌*◌, ◌%◌, ◌^◌, ◌<◌, ◌≤◌, ℕ, IsTrue, IsSome, IfSome};
+ghost use Rattle.std.specs.Prelude.{◌≡◌, ◌↔◌, ◌+◌, ◌*◌, ◌%◌, ◌^◌, ◌<◌, ℕ, IsTrue, IsSome, IfSome};
 ghost use Rattle.guest_memory.specs.Memory.{Memory, Inside, num};
 ghost use Rattle.suppression.specs.Packed.{IsEventPlace, PackedWants};
 ghost use Rattle.packed_ring.specs.Ring.{LiesIn};
@@ -39,9 +39,8 @@ impl RacingPackedRing {
     /// Stores a device event suppression structure of 0: the driver is to notify of every list (2.8.10).
     pub(crate) fn put_closing<M: Shared>(&self, mem: &mut M)
         requires { LiesIn (memory (M.sightings mem.old)) self.now.setup }
-        ensures closing { Stores (M.races mem.old) (M.sightings mem.old) (M.sightings mem.new) self.now.setup.device 4 0 }
+        ensures closing { Stores M.races (M.sightings mem.old) (M.sightings mem.new) self.now.setup.device 4 0 }
         ensures lies { LiesIn (memory (M.sightings mem.new)) self.now.setup }
-        ensures races { M.races mem.new ≡ M.races mem.old }
     {
         mem.store_u32(self.state.setup.device, 0);
     }
@@ -70,8 +69,7 @@ pub(crate) fn packed_wants<M: Shared>(
     requires place { from < 2 * n }
     requires most { passed < 2 * n }
     ensures wants { IsTrue result ↔ PackedWants (memory (M.sightings mem.new)) driver_area n event_idx from passed }
-    ensures loads { Loads (M.races mem.old) (M.sightings mem.old) (M.sightings mem.new) }
-    ensures races { M.races mem.new ≡ M.races mem.old }
+    ensures loads { Loads M.races (M.sightings mem.old) (M.sightings mem.new) }
 {
     let events = copy_events(mem, driver_area);
     match events.flags & RING_EVENT_FLAGS {
@@ -89,8 +87,7 @@ fn copy_events<M: Shared>(mem: &mut M, addr: u64) -> Events
     requires { Inside (memory (M.sightings mem.old)) addr 4 }
     ensures place { result.place ≡ num (memory (M.sightings mem.new)) addr 2 }
     ensures flags { result.flags ≡ num (memory (M.sightings mem.new)) (addr + 2) 2 }
-    ensures loads { Loads (M.races mem.old) (M.sightings mem.old) (M.sightings mem.new) }
-    ensures races { M.races mem.new ≡ M.races mem.old }
+    ensures loads { Loads M.races (M.sightings mem.old) (M.sightings mem.new) }
 {
     let mut bytes = [0; 4];
     mem.load(addr, &mut bytes);

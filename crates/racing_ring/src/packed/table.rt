@@ -21,8 +21,7 @@ pub(crate) fn append_table<M: Shared>(
     chain: &mut Chain,
     room: &mut [u8; 4096],
 ) -> Result<(), Fault>
-    ensures loads { Loads (M.races mem.old) (M.sightings mem.old) (M.sightings mem.new) }
-    ensures races { M.races mem.new ≡ M.races mem.old }
+    ensures loads { Loads M.races (M.sightings mem.old) (M.sightings mem.new) }
     ensures ok { OnOk result (EndsInTable packed_tables negotiated (memory (M.sightings mem.new)) chain.old count descriptor chain.new) }
     ensures fault { IfErr result (TableRefused packed_tables negotiated (memory (M.sightings mem.new)) chain.old count descriptor) }
 {

@@ -17,9 +17,8 @@ impl RacingPackedRing {
     #[tactic(auto, using(guest_memory::proofs::Ranges::inside_part, crate::proofs::Lying::packed_lies_stores))]
     pub(crate) fn put_used<M: Shared>(&self, mem: &mut M, id: u16, used: Used)
         requires { LiesIn (memory (M.sightings mem.old)) self.now.setup }
-        ensures given { IsGiven (M.races mem.old) (M.sightings mem.old) (M.sightings mem.new) self.now id used.len used.wrote }
+        ensures given { IsGiven M.races (M.sightings mem.old) (M.sightings mem.new) self.now id used.len used.wrote }
         ensures lies { LiesIn (memory (M.sightings mem.new)) self.now.setup }
-        ensures races { M.races mem.new ≡ M.races mem.old }
     {
         let word = used_word(self.used_flags(used.wrote), id, used.len);
         let descriptor = self.used_at(mem);

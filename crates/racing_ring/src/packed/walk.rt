@@ -35,7 +35,7 @@ struct Copied {
     flags: u16,
 }
 
-#[tactic(auto, using(crate::proofs::Listing::loads_on))]
+#[tactic(auto, using(shared_memory::proofs::Sightings::loads_trans))]
 /// Fills the empty chain with the buffers of the list that begins at a position (2.8.6). Each descriptor is read once;
 /// there is `None` where the first isn't available at this wrap counter.
 pub(crate) fn append_list<M: Shared>(
@@ -50,8 +50,7 @@ pub(crate) fn append_list<M: Shared>(
     requires few { table.size ≤ 256 }
     requires first { first < table.size }
     requires empty { chain.old ≡ [] }
-    ensures loads { Loads (M.races mem.old) (M.sightings mem.old) (M.sightings mem.new) }
-    ensures races { M.races mem.new ≡ M.races mem.old }
+    ensures loads { Loads M.races (M.sightings mem.old) (M.sightings mem.new) }
     ensures listed { IfOk result (λ found. IfSome found (λ end. IsListed (M.sightings mem.old) (M.sightings mem.new)
         table.indirect table.addr table.size first (if wrap then 1 else 0) chain.new (entry_of end.id (end.count + 1)))) }
     ensures fits { IfOk result (λ found. IfSome found (λ end. end.count < table.size)) }
@@ -90,8 +89,7 @@ fn copy_at<M: Shared>(mem: &mut M, table: Table, index: u16) -> Copied
     requires few { table.size ≤ 256 }
     requires below { index < table.size }
     ensures copied { IsCopied (M.sightings mem.old) (M.sightings mem.new) table.addr table.size index result.descriptor result.id result.flags }
-    ensures loads { Loads (M.races mem.old) (M.sightings mem.old) (M.sightings mem.new) }
-    ensures races { M.races mem.new ≡ M.races mem.old }
+    ensures loads { Loads M.races (M.sightings mem.old) (M.sightings mem.new) }
 {
     // So no address in the ring passes 2^64.
     mem.fits(table.addr, 16 * u64::from(table.size));

@@ -1,6 +1,6 @@
 //! The closing writes, and whether the driver is to be notified.
 
-ghost use Rattle.std.specs.Prelude.{◌≡◌, ◌↔◌, IsTrue};
+ghost use Rattle.std.specs.Prelude.{◌↔◌, IsTrue};
 ghost use Rattle.suppression.specs.Split.{SplitWants};
 ghost use Rattle.split_ring.specs.Ring.{LiesIn};
 ghost use Rattle.split_ring.specs.Kind.{first_passed};
@@ -22,9 +22,8 @@ impl RacingSplitRing {
     /// Stores used flags of 0 and, where VIRTIO_F_EVENT_IDX was negotiated, avail_event (2.7.10).
     pub(crate) fn put_closing<M: Shared>(&self, mem: &mut M)
         requires { LiesIn (memory (M.sightings mem.old)) self.now.setup }
-        ensures closing { IsClosing (M.races mem.old) (M.sightings mem.old) (M.sightings mem.new) self.now }
+        ensures closing { IsClosing M.races (M.sightings mem.old) (M.sightings mem.new) self.now }
         ensures lies { LiesIn (memory (M.sightings mem.new)) self.now.setup }
-        ensures races { M.races mem.new ≡ M.races mem.old }
     {
         let entries = 8 * u64::from(self.state.setup.size);
         mem.fits(self.state.setup.device, 6 + entries);
@@ -40,8 +39,7 @@ impl RacingSplitRing {
     pub(crate) fn wants<M: Shared>(&self, mem: &mut M) -> bool
         requires { LiesIn (memory (M.sightings mem.old)) self.now.setup }
         ensures wants { IsTrue result ↔ SplitWants (memory (M.sightings mem.new)) self.now.setup.driver self.now.setup.size self.now.setup.event_idx (first_passed self.now) self.now.used_count }
-        ensures loads { Loads (M.races mem.old) (M.sightings mem.old) (M.sightings mem.new) }
-        ensures races { M.races mem.new ≡ M.races mem.old }
+        ensures loads { Loads M.races (M.sightings mem.old) (M.sightings mem.new) }
     {
         let first = self.state.place.wrapping_sub(self.state.used_count);
         let count = self.state.used_count;

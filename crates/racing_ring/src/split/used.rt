@@ -1,6 +1,6 @@
 //! What is stored of a used chain.
 
-ghost use Rattle.std.specs.Prelude.{◌≡◌, ◌+◌, ◌*◌, ◌^◌};
+ghost use Rattle.std.specs.Prelude.{◌+◌, ◌*◌, ◌^◌};
 ghost use Rattle.split_ring.specs.Ring.{LiesIn, next_place, used_entry};
 ghost use Rattle.shared_memory.specs.Sightings.{Stores, memory};
 ghost use Rattle.racing_ring.specs.Split.{IsGiven};
@@ -12,9 +12,8 @@ impl RacingSplitRing {
     /// Stores the used entry of the ring's place, and then the used idx.
     pub(crate) fn put_used<M: Shared>(&self, mem: &mut M, head: u16, len: u32)
         requires { LiesIn (memory (M.sightings mem.old)) self.now.setup }
-        ensures given { IsGiven (M.races mem.old) (M.sightings mem.old) (M.sightings mem.new) self.now head len }
+        ensures given { IsGiven M.races (M.sightings mem.old) (M.sightings mem.new) self.now head len }
         ensures lies { LiesIn (memory (M.sightings mem.new)) self.now.setup }
-        ensures races { M.races mem.new ≡ M.races mem.old }
     {
         self.put_entry(mem, head, len);
         self.put_idx(mem);
@@ -24,9 +23,8 @@ impl RacingSplitRing {
     /// Stores the used entry of the ring's place: id and len, side by side.
     fn put_entry<M: Shared>(&self, mem: &mut M, head: u16, len: u32)
         requires { LiesIn (memory (M.sightings mem.old)) self.now.setup }
-        ensures stored { Stores (M.races mem.old) (M.sightings mem.old) (M.sightings mem.new) (used_entry self.now) 8 (len * 2 ^ 32 + head) }
+        ensures stored { Stores M.races (M.sightings mem.old) (M.sightings mem.new) (used_entry self.now) 8 (len * 2 ^ 32 + head) }
         ensures lies { LiesIn (memory (M.sightings mem.new)) self.now.setup }
-        ensures races { M.races mem.new ≡ M.races mem.old }
     {
         let offset = 8 * self.entry_at(self.state.place);
         mem.fits(
@@ -41,9 +39,8 @@ impl RacingSplitRing {
     /// Stores the used idx behind the ring's place.
     fn put_idx<M: Shared>(&self, mem: &mut M)
         requires { LiesIn (memory (M.sightings mem.old)) self.now.setup }
-        ensures stored { Stores (M.races mem.old) (M.sightings mem.old) (M.sightings mem.new) (self.now.setup.device + 2) 2 (next_place self.now) }
+        ensures stored { Stores M.races (M.sightings mem.old) (M.sightings mem.new) (self.now.setup.device + 2) 2 (next_place self.now) }
         ensures lies { LiesIn (memory (M.sightings mem.new)) self.now.setup }
-        ensures races { M.races mem.new ≡ M.races mem.old }
     {
         mem.fits(self.state.setup.device, 6);
         mem.store_u16(

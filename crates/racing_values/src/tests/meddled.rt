@@ -24,7 +24,7 @@ impl<'r, 'w> Shared for Meddled<'r, 'w> {
 
     ghost sightings = { λ m. sightings_of m.mem };
 
-    ghost races = { λ m. true };
+    ghost races = { true };
 
     fn holds(&self, addr: u64, n: u64) -> bool {
         self.mem.holds(addr, n)

@@ -14,16 +14,14 @@ loop-buffer-preserved g c = elim c.if-not-buffer.branch [
   | then-not-buffer w ↦ let mem = w.mem-is in let out = w.out-is in record {
     put = rw (mem, out) (buffer_more _ _ _ c.buffers-buffers.result.now c.loop-buffer.buffer-index _ _ _
         (record { segment = record { addr = 0; len = 0 }; writable = false }) c.loop-buffer.invariant.put
-        c.loop-buffer-test.true w.if-not-buffer.true _ _ _ (rw c.loop-buffer.invariant.races at w.put_segment.ensures.loads)
+        c.loop-buffer-test.true w.if-not-buffer.true _ _ _ w.put_segment.ensures.loads
         w.put_segment.ensures.put w.put_segment.ensures.room);
     limit = rw out (w.put_segment.ensures.limit ∙ c.loop-buffer.invariant.limit);
-    races = rw mem (w.put_segment.ensures.races ∙ c.loop-buffer.invariant.races);
   }
   | else-not-buffer w ↦ let mem = w.mem-is in let out = w.out-is in record {
     put = rw (mem, out) (skip_buffer _ _ _ c.buffers-buffers.result.now c.loop-buffer.buffer-index _ _ _
         (record { segment = record { addr = 0; len = 0 }; writable = false }) c.loop-buffer.invariant.put
         c.loop-buffer-test.true w.if-not-buffer.false);
     limit = rw out c.loop-buffer.invariant.limit;
-    races = rw mem c.loop-buffer.invariant.races;
   }
 ]

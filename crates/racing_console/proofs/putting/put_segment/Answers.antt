@@ -9,7 +9,7 @@ put_copy-requires-clause-inside g c =
     let long : length (take n c.loop-done.piece) ≡ n =
     length-take-le n c.loop-done.piece (omega (arith, c.min-len.ensures)) in
     rw long
-    (next_inside (g.M.Shared.races c.args.mem.now) (g.M.Shared.sightings c.args.mem.now)
+    (next_inside g.M.Shared.races (g.M.Shared.sightings c.args.mem.now)
     (g.M.Shared.sightings c.loop-done.mem) c.args.segment.addr c.args.segment.len c.loop-done.done n
     c.loop-done.invariant.put.loads c.requires.inside (omega (arith, c.min-len.ensures, c.loop-done-test.true)))
 
@@ -19,14 +19,13 @@ loop-done-preserved g c =
     let long : length (take n c.loop-done.piece) ≡ n =
     length-take-le n c.loop-done.piece (omega (arith, c.min-len.ensures)) in
     record {
-      put = done_more (g.M.Shared.races c.args.mem.now) (g.M.Shared.sightings c.args.mem.now)
+      put = done_more g.M.Shared.races (g.M.Shared.sightings c.args.mem.now)
           (g.M.Shared.sightings c.loop-done.mem) (g.M.Shared.sightings c.put_copy.new.mem) c.args.segment.addr
           c.args.segment.len c.loop-done.done n (g.O.Outlet.bytes c.args.out.now) (g.O.Outlet.bytes c.loop-done.out)
           (g.O.Outlet.bytes c.put_copy.new.out) (g.O.Outlet.room c.loop-done.out) (g.O.Outlet.room c.put_copy.new.out)
           c.loop-done.invariant.put (omega (arith, c.min-len.ensures, c.loop-done-test.true))
-          (rw c.loop-done.invariant.races at c.put_copy.ensures.loads)
+          c.put_copy.ensures.loads
           (rw long at c.put_copy.ensures.put) (rw long at c.put_copy.ensures.room);
       room = omega (arith, c.loop-done.invariant.room, rw long at c.put_copy.ensures.room);
       limit = c.put_copy.ensures.limit ∙ c.loop-done.invariant.limit;
-      races = c.put_copy.ensures.races ∙ c.loop-done.invariant.races;
     }

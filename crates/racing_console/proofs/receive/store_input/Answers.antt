@@ -12,6 +12,6 @@ pub returns-clause-stored : goal.returns-clause-stored
 returns-clause-stored g c =
     both_stored c.pending.result.0.now c.pending.result.1.now c.args.console.now.pending (writable_of c.args.chain.now)
     c.writable_len-places.result c.min-from_front.result c.min-from_back.result c.writable_len-places.ensures
-    c.pending.ensures c.min-from_front.ensures c.min-from_back.ensures (g.M.Shared.races c.args.mem.now) (g.M.Shared.sightings c.args.mem.now)
+    c.pending.ensures c.min-from_front.ensures c.min-from_back.ensures g.M.Shared.races (g.M.Shared.sightings c.args.mem.now)
     (g.M.Shared.sightings c.store_in_chain.new.mem) (g.M.Shared.sightings c.store_in_chain-2.new.mem)
-    c.store_in_chain.ensures.stored (rw c.store_in_chain.ensures.races at c.store_in_chain-2.ensures.stored)
+    c.store_in_chain.ensures.stored c.store_in_chain-2.ensures.stored

@@ -56,7 +56,7 @@ loop-run-preserved g c =
     let few = part_long c.loop-run.done here.len c.loop-run.into within in
     let inside = next_inside _ _ _ c.args.chain.now c.args.from (length c.args.into.now) c.as_slice-runs.result.now
     c.loop-run.run-index (record { addr = 0; len = 0 }) c.requires.good.inside are
-    (loads_trans _ _ _ _ c.loop-run.invariant.copied.loads (rw c.loop-run.invariant.races at c.load.ensures.loads))
+    (loads_trans _ _ _ _ c.loop-run.invariant.copied.loads c.load.ensures.loads)
     c.loop-run-test.true in
     let bytes : c.load.new.into ≡ part_of (memory (g.M.Shared.sightings c.load.new.self)) here.addr here.len =
     c.load.ensures.value ∙ ap (part_of (memory (g.M.Shared.sightings c.load.new.self)) here.addr) few in
@@ -65,12 +65,11 @@ loop-run-preserved g c =
     record {
       copied = copied_more _ _ _ _ c.as_slice-runs.result.now c.loop-run.run-index c.loop-run.done
           (record { addr = 0; len = 0 }) c.loop-run.into _ c.load.new.into c.loop-run-test.true c.loop-run.invariant.copied
-          (rw c.loop-run.invariant.races at c.load.ensures.loads) inside bytes
+          c.load.ensures.loads inside bytes
           (take-put_mid c.loop-run.done (c.loop-run.done + here.len - c.loop-run.done) c.loop-run.into c.load.new.into
           (c.loop-run.done + here.len) (omega (arith, size)) (omega (arith, within)));
       long = length-put_mid c.loop-run.done (c.loop-run.done + here.len - c.loop-run.done) c.loop-run.into c.load.new.into
           (size ∙ sym k) (omega (arith, within)) ∙ c.loop-run.invariant.long;
-      races = c.load.ensures.races ∙ c.loop-run.invariant.races;
     }
 
 pub returns-clause-copied : goal.returns-clause-copied

@@ -5,8 +5,7 @@ use Rattle.racing_disk.proofs.copy.copy.Given as goal
 -- the first runs were copied into the first bytes
 abbrev pub invariant-loop-run : goal.invariant-loop-run
 invariant-loop-run g l = record {
-  copied : Copied (g.M.Shared.races l.fn.mem) (g.M.Shared.sightings l.fn.mem) (g.M.Shared.sightings l.mem) l.runs
+  copied : Copied g.M.Shared.races (g.M.Shared.sightings l.fn.mem) (g.M.Shared.sightings l.mem) l.runs
       l.run-index l.done l.into;
   long : length l.into ≡ length l.fn.into;
-  races : g.M.Shared.races l.mem ≡ g.M.Shared.races l.fn.mem;
 }

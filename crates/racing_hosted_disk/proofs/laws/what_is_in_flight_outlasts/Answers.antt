@@ -7,8 +7,7 @@ returns-clause-fresh g c = fresh_holds g.Q.RacingQueue.entry_of g.Q.KeepsFlights
 
 pub returns-clause-outlasts : goal.returns-clause-outlasts
 returns-clause-outlasts g c =
-    outlasts g.Q.RacingQueue.kind g.Q.RacingQueue.entry_of g.Q.RacingQueue.IsAhead
-    g.Q.KeepsFlights.Fits g.Q.KeepsFlights.ahead_of g.met.Q.KeepsFlights.lasts
+    outlasts g.met.Q.KeepsFlights.lasts
 
 pub returns-clause-unserved : goal.returns-clause-unserved
 returns-clause-unserved g c =

@@ -3,7 +3,8 @@ use Rattle.std.specs.Prelude.{is_some}
 use Rattle.block_device.specs.Tags.{free_tag, tokens_of}
 use Rattle.racing_service.specs.Service.{standing_at}
 use Rattle.racing_service.specs.Flights.{AreAhead}
-use Rattle.racing_service.proofs.Flights.{ahead_stays, service_keeps}
+use Rattle.racing_service.proofs.Flights.{ahead_stays, moves}
+use Rattle.racing_service.proofs.Moving.{service_keeps}
 use Rattle.block_device.proofs.Freeing.{entry_free, is_free, now_taken, set_free, still_free}
 use Rattle.racing_hosted_disk.proofs.Going.{taken_ahead}
 use Rattle.block_device.proofs.Holding.{all_set}
@@ -55,10 +56,8 @@ pub returns-in-Ok-clause-ahead : goal.returns-in-Ok-clause-ahead
 returns-in-Ok-clause-ahead g c =
     subst (λ t. AreAhead g.Q.RacingQueue.entry_of g.Q.KeepsFlights.Fits g.Q.KeepsFlights.ahead_of c.look_into.new.queue
     (tokens_of t)) (sym (returns-in-Ok-clause-idle g c))
-    (ahead_stays g.Q.RacingQueue.kind g.Q.RacingQueue.entry_of g.Q.RacingQueue.IsAhead
-    g.Q.KeepsFlights.Fits g.Q.KeepsFlights.ahead_of g.met.Q.KeepsFlights.lasts c.args.queue.now c.look_into.new.queue _
-    (service_keeps g.Q.RacingQueue.kind g.Q.RacingQueue.entry_of g.Q.RacingQueue.IsAhead
-    g.Q.KeepsFlights.Fits g.Q.KeepsFlights.ahead_of g.met.Q.KeepsFlights.lasts _ _ _ _ _ _ _ _ c.in-Ok.ensures.ends).stays
+    (ahead_stays g.met.Q.KeepsFlights.lasts c.args.queue.now c.look_into.new.queue _
+    (service_keeps (moves g.met.Q.KeepsFlights.lasts) _ _ _ _ _ _ _ _ c.in-Ok.ensures.ends).stays
     c.requires.ahead)
 
 pub returns-then-step-clause-each : goal.returns-then-step-clause-each
@@ -68,9 +67,8 @@ returns-then-step-clause-each g c =
 
 pub returns-then-step-clause-ahead : goal.returns-then-step-clause-ahead
 returns-then-step-clause-ahead g c =
-    taken_ahead g.Q.RacingQueue.kind g.Q.RacingQueue.entry_of g.Q.RacingQueue.IsAhead
-    g.Q.KeepsFlights.Fits g.Q.KeepsFlights.ahead_of g.met.Q.KeepsFlights.lasts c.args.disk.now.device
-    (g.M.Shared.races c.args.mem.now) c.args.stage c.args.limits.rounds g.Q.RacingQueue.IsTaken c.args.stable c.look_into.new.tag
+    taken_ahead g.met.Q.KeepsFlights.lasts c.args.disk.now.device
+    g.M.Shared.races c.args.stage c.args.limits.rounds g.Q.RacingQueue.IsTaken c.args.stable c.look_into.new.tag
     (standing_at (g.M.Shared.sightings c.args.mem.now) c.args.queue.now tt c.args.limits.budget)
     (standing_at (g.M.Shared.sightings c.look_into.new.mem) c.look_into.new.queue tt c.in-Err.step.left)
     c.in-Err.step.wanted c.tags.inside.items.items c.args.tag (ap free_tag c.tags.view_is ∙ c.requires.lowest)
@@ -78,9 +76,8 @@ returns-then-step-clause-ahead g c =
 
 pub returns-else-step-clause-ahead : goal.returns-else-step-clause-ahead
 returns-else-step-clause-ahead g c =
-    taken_ahead g.Q.RacingQueue.kind g.Q.RacingQueue.entry_of g.Q.RacingQueue.IsAhead
-    g.Q.KeepsFlights.Fits g.Q.KeepsFlights.ahead_of g.met.Q.KeepsFlights.lasts c.args.disk.now.device
-    (g.M.Shared.races c.args.mem.now) c.args.stage c.args.limits.rounds g.Q.RacingQueue.IsTaken c.args.stable c.look_into.new.tag
+    taken_ahead g.met.Q.KeepsFlights.lasts c.args.disk.now.device
+    g.M.Shared.races c.args.stage c.args.limits.rounds g.Q.RacingQueue.IsTaken c.args.stable c.look_into.new.tag
     (standing_at (g.M.Shared.sightings c.args.mem.now) c.args.queue.now tt c.args.limits.budget)
     (standing_at (g.M.Shared.sightings c.look_into.new.mem) c.look_into.new.queue tt c.in-Err.step.left)
     c.in-Err.step.wanted c.tags.inside.items.items c.args.tag (ap free_tag c.tags.view_is ∙ c.requires.lowest)

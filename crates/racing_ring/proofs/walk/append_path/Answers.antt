@@ -1,4 +1,4 @@
-use Rattle.std.proofs.Common.{ℕ, arith, rules, refl}
+use Rattle.std.proofs.Common.{ℕ, arith, rules}
 use Rattle.std.proofs.lemmas.Result.{IfErr-weaker, on_ok_weaker}
 use Rattle.indirect.specs.Lists.{split_tables, EndsInTable, TableRefused}
 use Rattle.shared_memory.specs.Sightings.{memory}
@@ -13,8 +13,7 @@ pub loop-count-init : goal.loop-count-init
 loop-count-init g c =
     let l = g.M.Shared.sightings c.args.mem.now in
     record {
-      loads = loads_none (g.M.Shared.races c.args.mem.now) l;
-      races = refl;
+      loads = loads_none g.M.Shared.races l;
       seen = rw c.requires.unread (seen_none l.now l c.args.table.addr 256);
       walk = rw c.requires.empty (walked_start (memory l) c.args.room.now.known c.args.table.size c.args.head);
     }
@@ -22,14 +21,14 @@ loop-count-init g c =
 pub returns-then-index-table-clause-fault : goal.returns-then-index-table-clause-fault
 returns-then-index-table-clause-fault g c =
     let i = c.loop-count.invariant in
-    walk_past (g.M.Shared.races c.args.mem.now) (g.M.Shared.sightings c.args.mem.now) (g.M.Shared.sightings c.loop-count.mem)
+    walk_past g.M.Shared.races (g.M.Shared.sightings c.args.mem.now) (g.M.Shared.sightings c.loop-count.mem)
     c.args.table.indirect c.args.table.addr c.args.table.size c.args.head c.loop-count.room.known i.loads i.seen
     c.loop-count._count c.loop-count.index c.loop-count.chain c.loop-count-test.true c.if-index-table.true i.walk
 
 pub returns-clause-fault : goal.returns-clause-fault
 returns-clause-fault g c =
     let i = c.loop-count.invariant in
-    walk_full (g.M.Shared.races c.args.mem.now) (g.M.Shared.sightings c.args.mem.now) (g.M.Shared.sightings c.loop-count.mem)
+    walk_full g.M.Shared.races (g.M.Shared.sightings c.args.mem.now) (g.M.Shared.sightings c.loop-count.mem)
     c.args.table.indirect c.args.table.addr c.args.table.size c.args.head c.loop-count.room.known i.loads i.seen
     c.loop-count._count c.loop-count.index c.loop-count.chain (omega arith) i.walk
 
@@ -38,12 +37,11 @@ loop-count-preserved g c =
     let old = g.M.Shared.sightings c.args.mem.now in
     let i = c.loop-count.invariant in
     let looked = c.descriptor-descriptor.ensures.looked in
-    let s = looked_up (g.M.Shared.races c.args.mem.now) _ old _ _ c.args.table.addr c.args.table.size c.args.head
-    c.loop-count._count c.loop-count.index _ _ c.loop-count.chain _ i.races i.loads
+    let s = looked_up g.M.Shared.races old _ _ c.args.table.addr c.args.table.size c.args.head
+    c.loop-count._count c.loop-count.index _ _ c.loop-count.chain _ i.loads
     c.descriptor-descriptor.ensures.loads looked i.seen i.walk in
     record {
       loads = s.loads;
-      races = rw c.descriptor-descriptor.ensures.races i.races;
       seen = s.seen;
       walk = walked_step (memory old) c.descriptor-descriptor.new.self c.args.table.size c.args.head c.loop-count._count
           c.loop-count.index c.in-Some.next c.loop-count.chain c.push.new.chain c.descriptor-descriptor.result
@@ -59,8 +57,8 @@ returns-in-None-clause-ok g c =
     let new = g.M.Shared.sightings c.descriptor-descriptor.new.mem in
     let i = c.loop-count.invariant in
     let looked = c.descriptor-descriptor.ensures.looked in
-    let s = looked_up (g.M.Shared.races c.args.mem.now) _ old _ new c.args.table.addr c.args.table.size c.args.head
-    c.loop-count._count c.loop-count.index _ _ c.loop-count.chain _ i.races i.loads
+    let s = looked_up g.M.Shared.races old _ new c.args.table.addr c.args.table.size c.args.head
+    c.loop-count._count c.loop-count.index _ _ c.loop-count.chain _ i.loads
     c.descriptor-descriptor.ensures.loads looked i.seen i.walk in
     walk_plain _ old new c.args.table.indirect c.args.table.addr c.args.table.size c.args.head
     c.descriptor-descriptor.new.self s.loads s.seen c.loop-count._count c.loop-count.index c.loop-count.chain
@@ -76,8 +74,8 @@ returns-in_err-push-clause-fault g c =
     let new = g.M.Shared.sightings c.descriptor-descriptor.new.mem in
     let i = c.loop-count.invariant in
     let looked = c.descriptor-descriptor.ensures.looked in
-    let s = looked_up (g.M.Shared.races c.args.mem.now) _ old _ new c.args.table.addr c.args.table.size c.args.head
-    c.loop-count._count c.loop-count.index _ _ c.loop-count.chain _ i.races i.loads
+    let s = looked_up g.M.Shared.races old _ new c.args.table.addr c.args.table.size c.args.head
+    c.loop-count._count c.loop-count.index _ _ c.loop-count.chain _ i.loads
     c.descriptor-descriptor.ensures.loads looked i.seen i.walk in
     let fails = walk_refused _ old new c.args.table.indirect c.args.table.addr c.args.table.size c.args.head
     c.descriptor-descriptor.new.self s.loads s.seen c.loop-count._count c.loop-count.index c.loop-count.chain
@@ -89,7 +87,7 @@ returns-in_err-push-clause-fault g c =
 
 pub returns-then-descriptor-clause-ok : goal.returns-then-descriptor-clause-ok
 returns-then-descriptor-clause-ok g c =
-    let races = g.M.Shared.races c.args.mem.now in
+    let races = g.M.Shared.races in
     let old = g.M.Shared.sightings c.args.mem.now in
     let new = g.M.Shared.sightings c.append_table.new.mem in
     let i = c.loop-count.invariant in
@@ -98,9 +96,9 @@ returns-then-descriptor-clause-ok g c =
     let before = c.loop-count.chain in
     let after = c.append_table.new.chain in
     let looked = c.descriptor-descriptor.ensures.looked in
-    let s = looked_later races _ old _ new _ c.args.table.size c.args.head k c.loop-count.index _ before
-    (rw c.descriptor-descriptor.ensures.races i.races) c.append_table.ensures.loads
-    (looked_up races _ old _ _ c.args.table.addr c.args.table.size c.args.head k c.loop-count.index _ _ before d i.races
+    let s = looked_later races old _ new _ c.args.table.size c.args.head k c.loop-count.index _ before
+    c.append_table.ensures.loads
+    (looked_up races old _ _ c.args.table.addr c.args.table.size c.args.head k c.loop-count.index _ _ before d
     i.loads c.descriptor-descriptor.ensures.loads looked i.seen i.walk) in
     on_ok_weaker c.append_table.result
     (λ (ends : (count : ℕ) → EndsInTable split_tables c.args.table.indirect (memory new) before count d after).
@@ -111,7 +109,7 @@ returns-then-descriptor-clause-ok g c =
 
 pub returns-then-descriptor-clause-fault : goal.returns-then-descriptor-clause-fault
 returns-then-descriptor-clause-fault g c =
-    let races = g.M.Shared.races c.args.mem.now in
+    let races = g.M.Shared.races in
     let old = g.M.Shared.sightings c.args.mem.now in
     let new = g.M.Shared.sightings c.append_table.new.mem in
     let i = c.loop-count.invariant in
@@ -119,9 +117,9 @@ returns-then-descriptor-clause-fault g c =
     let k = c.loop-count._count in
     let before = c.loop-count.chain in
     let looked = c.descriptor-descriptor.ensures.looked in
-    let s = looked_later races _ old _ new _ c.args.table.size c.args.head k c.loop-count.index _ before
-    (rw c.descriptor-descriptor.ensures.races i.races) c.append_table.ensures.loads
-    (looked_up races _ old _ _ c.args.table.addr c.args.table.size c.args.head k c.loop-count.index _ _ before d i.races
+    let s = looked_later races old _ new _ c.args.table.size c.args.head k c.loop-count.index _ before
+    c.append_table.ensures.loads
+    (looked_up races old _ _ c.args.table.addr c.args.table.size c.args.head k c.loop-count.index _ _ before d
     i.loads c.descriptor-descriptor.ensures.loads looked i.seen i.walk) in
     IfErr-weaker c.append_table.result
     (λ fault. (count : ℕ) → TableRefused split_tables c.args.table.indirect (memory new) before count d fault)

@@ -8,21 +8,21 @@ returns-then-is_idle-clause-service g c =
     let v = c.loop.invariant in
     service_settles _ _ _ c.args.stage c.loop.here c.args.limits.rounds _ _ c.loop.counter _ c.in-Ok.stop _ _ _ _ _ v.service
     (omega (arith, c.loop-test.true)) (c.is_again.ensures.0 c.if-is_again.true)
-    (rw (v.setup, v.races) at c.in-Ok.ensures.runs) (c.is_idle.ensures.0 c.if-is_idle.true) c.shut.ensures.shut
+    (rw v.setup at c.in-Ok.ensures.runs) (c.is_idle.ensures.0 c.if-is_idle.true) c.shut.ensures.shut
 
 pub returns-in-Some-clause-service : goal.returns-in-Some-clause-service
 returns-in-Some-clause-service g c =
     let v = c.loop.invariant in
-    service_ends _ _ _ c.args.stage c.loop.here _ _ c.loop.counter _ c.in-Ok.stop _ _ _ _ _ _ _ _ _ v.service
-    (c.run.ensures.races ∙ v.races) (rw (v.setup, v.races) at c.in-Ok.ensures.runs)
+    service_ends _ _ _ c.args.stage c.loop.here _ _ c.loop.counter _ c.in-Ok.stop _ _ _ _ _ _ _ _ v.service
+    (rw v.setup at c.in-Ok.ensures.runs)
     c.close-wanted.ensures.closed c.close-wanted.ensures.shut refl c.args.limits.rounds c.in-Some.ending
     (omega (arith, c.loop-test.true)) (rw c.in-Some.is at (sym c.ending_of.ensures))
 
 pub loop-preserved : goal.loop-preserved
 loop-preserved g c =
     let v = c.loop.invariant in record {
-      service = service_goes_on _ _ _ c.args.stage c.loop.here _ _ c.loop.counter _ c.in-Ok.stop _ _ _ _ _ _ _ _ _ v.service
-          (c.run.ensures.races ∙ v.races) (rw (v.setup, v.races) at c.in-Ok.ensures.runs)
+      service = service_goes_on _ _ _ c.args.stage c.loop.here _ _ c.loop.counter _ c.in-Ok.stop _ _ _ _ _ _ _ _ v.service
+          (rw v.setup at c.in-Ok.ensures.runs)
           c.close-wanted.ensures.closed c.close-wanted.ensures.shut refl (sym c.ending_of.ensures ∙ c.in_default.is)
           (elim c.else-is_again.branch [
             | else-is_again-via-then-is_again+else-is_idle w ↦ λ again idle.
@@ -30,7 +30,6 @@ loop-preserved g c =
             | else-is_again-via-else-is_again w ↦ λ again idle.
                 let told = c.is_again.ensures.1 again in cc (told, w.if-is_again.false)
           ]);
-      races = c.close-wanted.ensures.races ∙ c.run.ensures.races ∙ v.races;
       setup = c.run.ensures.setup ∙ v.setup;
       ready = c.run.ensures.ready;
       lies = c.close-wanted.ensures.lies;
@@ -46,4 +45,4 @@ returns-in-Err-clause-refuses g c =
     let v = c.loop.invariant in
     service_left _ _ _ c.args.stage c.loop.here c.args.limits.rounds _ _ c.loop.counter _ _
     (g.D.RacingDevice.Refuses (g.D.RacingDevice.setup c.args.device.now c.args.backend.now) c.run.new.backend) _ _ _
-    v.service (omega (arith, c.loop-test.true)) (rw (v.setup, v.races) at c.in-Err.ensures.leaves)
+    v.service (omega (arith, c.loop-test.true)) (rw v.setup at c.in-Err.ensures.leaves)

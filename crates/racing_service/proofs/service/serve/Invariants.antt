@@ -7,12 +7,11 @@ use Rattle.racing_service.proofs.service.serve.Given as goal
 abbrev pub invariant-loop : goal.invariant-loop
 invariant-loop g l = record {
   service : IsInService g.Q.RacingQueue.kind (g.D.RacingDevice.device (g.D.RacingDevice.setup l.fn.device l.fn.backend))
-      (g.M.Shared.races l.fn.mem) l.fn.stage l.here
+      g.M.Shared.races l.fn.stage l.here
       (standing_at (g.M.Shared.sightings l.fn.mem) l.fn.queue (g.D.RacingDevice.state l.fn.device l.fn.backend)
       l.fn.limits.budget)
       (standing_at (g.M.Shared.sightings l.mem) l.queue (g.D.RacingDevice.state l.device l.backend) l.left)
       l.counter l.wanted;
-  races : g.M.Shared.races l.mem ≡ g.M.Shared.races l.fn.mem;
   setup : g.D.RacingDevice.setup l.device l.backend ≡ g.D.RacingDevice.setup l.fn.device l.fn.backend;
   ready : g.D.RacingDevice.IsReady l.device l.backend;
   lies : g.Q.RacingQueue.LiesIn (memory (g.M.Shared.sightings l.mem)) l.queue;

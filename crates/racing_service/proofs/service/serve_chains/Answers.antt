@@ -9,7 +9,7 @@ use Rattle.racing_service.proofs.service.serve_chains.Goals as goal
 pub returns-then-is_spent-clause-serves : goal.returns-then-is_spent-clause-serves
 returns-then-is_spent-clause-serves g c =
     let same = c.loop-queue.invariant.setup in
-    paused _ _ _ _ _ _ _ _ _ _ _ _ _ _ c.loop-queue.invariant.round c.loop-queue.invariant.races
+    paused _ _ _ _ _ _ _ _ _ _ _ _ _ c.loop-queue.invariant.round
     (rw (← same) (sym c.takes.ensures ∙ c.loop-queue-test.true)) (c.is_spent.ensures.0 c.if-is_spent.true)
     c.take.ensures.loads (rw c.in-Ok-Some.field-0-is at c.in-Ok-Some.ensures.told)
     (rw c.in-Ok-Some.field-0-is at c.in-Ok-Some.ensures.offered) c.in-Ok-Some.ensures.same
@@ -17,14 +17,12 @@ returns-then-is_spent-clause-serves g c =
 pub loop-queue-preserved : goal.loop-queue-preserved
 loop-queue-preserved g c =
     let same = c.loop-queue.invariant.setup in record {
-      round = one_more _ _ _ _ _ _ _ _ _ _ _ _ _ _ _ _ _ _ _ _ _ _ _ c.loop-queue.invariant.round
-          c.loop-queue.invariant.races c.take.ensures.races c.serve.ensures.races
+      round = one_more _ _ _ _ _ _ _ _ _ _ _ _ _ _ _ _ _ _ _ _ c.loop-queue.invariant.round
           (rw (← same) (sym c.takes.ensures ∙ c.loop-queue-test.true))
           (some_left c.loop-queue.left c.is_spent.result c.is_spent.ensures c.if-is_spent.false) c.spend.ensures
           c.take.ensures.loads (rw c.in-Ok-Some.field-0-is at c.in-Ok-Some.ensures.told)
           (rw c.in-Ok-Some.field-0-is at c.in-Ok-Some.ensures.offered) c.in-Ok-Some.ensures.same
           (rw same at c.in-Ok.ensures.does) c.give.ensures.given c.give.ensures.past;
-      races = c.give.ensures.races ∙ c.serve.ensures.races ∙ c.take.ensures.races ∙ c.loop-queue.invariant.races;
       setup = c.serve.ensures.setup ∙ same;
       ready = c.serve.ensures.ready;
       lies = c.give.ensures.lies;
@@ -38,13 +36,13 @@ give-requires-clause-lies g c =
 
 pub returns-in-Ok-None-clause-serves : goal.returns-in-Ok-None-clause-serves
 returns-in-Ok-None-clause-serves g c =
-    not_offered _ _ _ _ _ _ _ _ _ _ _ _ _ c.run_out.ensures c.loop-queue.invariant.round c.loop-queue.invariant.races
+    not_offered _ _ _ _ _ _ _ _ _ _ _ _ c.run_out.ensures c.loop-queue.invariant.round
     c.take.ensures.loads (rw c.in-Ok-None.field-0-is at c.in-Ok-None.ensures.told) c.in-Ok-None.ensures.same
 
 pub returns-in-Err-clause-serves : goal.returns-in-Err-clause-serves
 returns-in-Err-clause-serves g c =
     let same = c.loop-queue.invariant.setup in
-    broken _ _ _ _ _ _ _ _ _ _ _ _ _ c.loop-queue.invariant.round c.loop-queue.invariant.races
+    broken _ _ _ _ _ _ _ _ _ _ _ _ c.loop-queue.invariant.round
     (rw (← same) (sym c.takes.ensures ∙ c.loop-queue-test.true)) c.take.ensures.loads
     c.in-Err.ensures.faulty c.in-Err.ensures.stopped
 
@@ -57,9 +55,9 @@ returns-clause-serves g c =
 pub returns-in-Err-serve-clause-leaves : goal.returns-in-Err-serve-clause-leaves
 returns-in-Err-serve-clause-leaves g c =
     let same = c.loop-queue.invariant.setup in
-    left_there _ _ _ _ _ _ _ _ _ _ _ _ _ _ _ _ _ _
+    left_there _ _ _ _ _ _ _ _ _ _ _ _ _ _ _ _
     (g.D.RacingDevice.Refuses (g.D.RacingDevice.setup c.args.device.now c.args.backend.now) c.serve.new.backend)
-    c.in-Err-serve.why c.loop-queue.invariant.round c.loop-queue.invariant.races c.take.ensures.races
+    c.in-Err-serve.why c.loop-queue.invariant.round
     (rw (← same) (sym c.takes.ensures ∙ c.loop-queue-test.true))
     (some_left c.loop-queue.left c.is_spent.result c.is_spent.ensures c.if-is_spent.false) c.spend.ensures
     c.take.ensures.loads (rw c.in-Ok-Some.field-0-is at c.in-Ok-Some.ensures.told)

@@ -76,14 +76,13 @@ loop-run-preserved g c =
     ap (λ (bs : List ℕ). length bs) row
     ∙ length-take-le here.len (drop c.loop-run.done c.args.bytes.now)
     (omega (arith, fits, length-drop c.loop-run.done c.args.bytes.now)) in
-    let one : StoresEach (g.M.Shared.races c.args.mem.now) (g.M.Shared.sightings c.loop-run.mem)
+    let one : StoresEach g.M.Shared.races (g.M.Shared.sightings c.loop-run.mem)
     (g.M.Shared.sightings c.store_run.new.mem) (range_with_len here.addr here.len)
     (take (c.loop-run.done + here.len - c.loop-run.done) (drop c.loop-run.done c.args.bytes.now)) =
-    rw (c.loop-run.invariant.races, few) at c.store_run.ensures.stored in
+    rw few at c.store_run.ensures.stored in
     record {
       rows = run_stored c.args.chain.now c.args.from c.args.bytes.now c.as_slice-runs.result.now are _ _ _ _
           c.loop-run.run-index c.loop-run.done blank _ c.loop-run.invariant.rows c.loop-run-test.true row one;
-      races = c.store_run.ensures.races ∙ c.loop-run.invariant.races;
       range = same_trans _ _ _ c.loop-run.invariant.range c.store_run.ensures.range;
     }
 

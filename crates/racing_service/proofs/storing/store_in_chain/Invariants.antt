@@ -1,4 +1,3 @@
-use Rattle.std.proofs.Common.{◌≡◌}
 use Rattle.guest_memory.specs.Memory.{SameRange}
 use Rattle.shared_memory.specs.Sightings.{memory}
 use Rattle.racing_service.proofs.Rows.{AreStored}
@@ -7,8 +6,7 @@ use Rattle.racing_service.proofs.storing.store_in_chain.Given as goal
 -- the bytes of the first runs were stored
 abbrev pub invariant-loop-run : goal.invariant-loop-run
 invariant-loop-run g l = record {
-  rows : AreStored (g.M.Shared.races l.fn.mem) (g.M.Shared.sightings l.fn.mem) (g.M.Shared.sightings l.mem) l.runs
+  rows : AreStored g.M.Shared.races (g.M.Shared.sightings l.fn.mem) (g.M.Shared.sightings l.mem) l.runs
       l.run-index l.done l.bytes;
-  races : g.M.Shared.races l.mem ≡ g.M.Shared.races l.fn.mem;
   range : SameRange (memory (g.M.Shared.sightings l.fn.mem)) (memory (g.M.Shared.sightings l.mem));
 }

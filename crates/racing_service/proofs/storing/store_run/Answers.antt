@@ -1,4 +1,4 @@
-use Rattle.std.proofs.Common.{◌∙◌, ◌+◌, arith, get_or, length, refl}
+use Rattle.std.proofs.Common.{◌+◌, arith, get_or, length, refl}
 use Rattle.std.specs.List.{range_with_len}
 use Rattle.std.proofs.lemmas.List.{take_all}
 use Rattle.std.proofs.lemmas.List.FromFn.{length-range_with_len}
@@ -14,12 +14,11 @@ store_u8-requires g c =
 pub loop-index-preserved : goal.loop-index-preserved
 loop-index-preserved g c =
     let byte = get_or c.args.bytes.now c.loop-index.index 0 in
-    let once = byte_stored _ _ _ _ byte (omega (arith, c.type_inv.bytes c.loop-index.index)) (rw c.loop-index.invariant.races at c.store_u8.ensures.stores) in
+    let once = byte_stored _ _ _ _ byte (omega (arith, c.type_inv.bytes c.loop-index.index)) c.store_u8.ensures.stores in
     record {
       stored = each_more _ _ _ _ _ c.args.bytes.now c.loop-index.index (c.args.addr + c.loop-index.index) byte c.loop-index-test.true
           c.loop-index.invariant.stored
           (range_place c.args.addr (length c.args.bytes.now) c.loop-index.index c.loop-index-test.true) refl once;
-      races = c.store_u8.ensures.races ∙ c.loop-index.invariant.races;
       range = same_trans _ _ _ c.loop-index.invariant.range (once_range _ _ _ _ _ once);
     }
 

@@ -1,4 +1,4 @@
-use Rattle.std.proofs.Common.{◌≡◌, length, take}
+use Rattle.std.proofs.Common.{length, take}
 use Rattle.std.specs.List.{range_with_len}
 use Rattle.guest_memory.specs.Memory.{SameRange}
 use Rattle.shared_memory.specs.Sightings.{memory}
@@ -8,8 +8,7 @@ use Rattle.racing_service.proofs.storing.store_run.Given as goal
 -- the first bytes were stored
 abbrev pub invariant-loop-index : goal.invariant-loop-index
 invariant-loop-index g l = record {
-  stored : StoresEach (g.M.Shared.races l.fn.mem) (g.M.Shared.sightings l.fn.mem) (g.M.Shared.sightings l.mem)
+  stored : StoresEach g.M.Shared.races (g.M.Shared.sightings l.fn.mem) (g.M.Shared.sightings l.mem)
       (take l.index (range_with_len l.addr (length l.bytes))) (take l.index l.bytes);
-  races : g.M.Shared.races l.mem ≡ g.M.Shared.races l.fn.mem;
   range : SameRange (memory (g.M.Shared.sightings l.fn.mem)) (memory (g.M.Shared.sightings l.mem));
 }

@@ -15,7 +15,7 @@ overflow_cast-result g c =
 
 pub returns-clause-does : goal.returns-clause-does
 returns-clause-does g c =
-    receive_raced (g.M.Shared.races c.args.mem.now) (g.M.Shared.sightings c.args.mem.now)
+    receive_raced g.M.Shared.races (g.M.Shared.sightings c.args.mem.now)
     (g.M.Shared.sightings c.store_input-count.new.mem) c.args.chain.now c.args.console.now.pending
     c.skip_input.new.self.pending c.store_input-count.result c.requires.good c.store_input-count.ensures.count
     c.store_input-count.ensures.stored

@@ -28,13 +28,13 @@ pub returns-clause-answered : goal.returns-clause-answered
 returns-clause-answered g c = λ readable left.
     let once = byte_stored _ _ _ c.last_writable.result c.code.result c.code.type_inv c.store_u8.ensures.stores in record {
       done = g.M.Shared.sightings c.store_u8.new.self;
-      answered = answered c.args.self.now.device (g.M.Shared.races c.args.mem.now) (g.M.Shared.sightings c.args.mem.now)
+      answered = answered c.args.self.now.device g.M.Shared.races (g.M.Shared.sightings c.args.mem.now)
           (g.M.Shared.sightings c.store_found-done.new.mem) (g.M.Shared.sightings c.store_u8.new.self) readable c.args.chain.now
           c.args.request c.args.room.now c.store_found-done.result.len c.last_writable.result c.used-used.result.len
           c.store_found-done.result.status left c.store_found-done.ensures.found c.last_writable.ensures.value
-          (rw (c.code.ensures, c.store_found-done.ensures.races) at once)
+          (rw c.code.ensures at once)
           (c.used-used.ensures.len ∙ ap (used_by c.store_found-done.result.len) c.writable_len.ensures);
-      given = rw (c.store_u8.ensures.races ∙ c.store_found-done.ensures.races, c.used-used.ensures.wrote) at
+      given = rw c.used-used.ensures.wrote at
           c.give.ensures.given;
       past = c.give.ensures.past;
     }

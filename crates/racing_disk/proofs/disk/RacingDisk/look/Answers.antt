@@ -39,4 +39,4 @@ returns-clause-answers g c =
     c.in-Err.refused.left c.serve.new.chain (g.Q.RacingQueue.entry_of c.in-Err.refused.token) c.in-Err.refused.why
     c.serve.new.backend c.in-Err.refused.wanted (record { service = c.in-Err.ensures.refuses })
     (g.M.Shared.sightings c.answer.new.mem) c.answer.new.queue c.answer.result (sym c.asks.ensures ∙ c.if-asks.false)
-    (rw (c.serve.ensures.setup, c.serve.ensures.races) at c.answer.ensures.answered)
+    (rw c.serve.ensures.setup at c.answer.ensures.answered)

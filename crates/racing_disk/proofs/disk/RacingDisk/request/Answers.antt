@@ -11,7 +11,7 @@ returns-then-readable-lt-HEADER_LEN-clause-judged g c =
 
 pub returns-in-Known-clause-judged : goal.returns-in-Known-clause-judged
 returns-in-Known-clause-judged g c =
-    known_judged c.args.self.now.device (g.M.Shared.races c.args.mem.now) (g.M.Shared.sightings c.args.mem.now)
+    known_judged c.args.self.now.device g.M.Shared.races (g.M.Shared.sightings c.args.mem.now)
     (g.M.Shared.sightings c.read_header-header.new.mem) c.args.chain.now c.args.room c.readable_len-readable.result
     c.read_header-header.result.kind c.read_header-header.result.sector c.in-Known.request c.read_header-header.new.room c.requires.good
     c.read_header-header.ensures.loads (sym c.readable_len-readable.ensures.value) c.if-readable-lt-HEADER_LEN.false
@@ -19,10 +19,10 @@ returns-in-Known-clause-judged g c =
 
 pub returns-in-Zeroes-clause-judged : goal.returns-in-Zeroes-clause-judged
 returns-in-Zeroes-clause-judged g c =
-    zeroes_judged c.args.self.now.device (g.M.Shared.races c.args.mem.now) (g.M.Shared.sightings c.args.mem.now)
+    zeroes_judged c.args.self.now.device g.M.Shared.races (g.M.Shared.sightings c.args.mem.now)
     (g.M.Shared.sightings c.read_header-header.new.mem) (g.M.Shared.sightings c.zeroes_request.new.mem) c.args.chain.now
     c.args.room c.readable_len-readable.result c.read_header-header.result.kind c.read_header-header.result.sector _
     c.zeroes_request.result c.zeroes_request.new.runs c.read_header-header.ensures.loads
-    (rw c.read_header-header.ensures.races at c.zeroes_request.ensures.loads) (sym c.readable_len-readable.ensures.value)
+    c.zeroes_request.ensures.loads (sym c.readable_len-readable.ensures.value)
     c.if-readable-lt-HEADER_LEN.false c.read_header-header.ensures.header c.in-Zeroes.ensures
     c.zeroes_request.ensures.zeroing

@@ -4,7 +4,7 @@ use Rattle.racing_guest.proofs.block.looking.look.Goals as goal
 
 pub returns-clause-sound : goal.returns-clause-sound
 returns-clause-sound g c =
-    looked_sound (g.M.Shared.races c.args.mem.now) c.args.limits c.wants_stable-stable.result
+    looked_sound g.M.Shared.races c.args.limits c.wants_stable-stable.result
     (g.M.Shared.sightings c.args.mem.now) (g.M.Shared.sightings c.serve-served.new.mem)
     (memory (g.M.Shared.sightings c.args.mem.now)) (memory (g.M.Shared.sightings c.serve-served.new.mem))
     c.args.window.now c.show_looks.new.window c.show_looks.new.window c.in-Some.queue.now c.of-ring.result

@@ -18,7 +18,7 @@ returns-in_err-served-clause-sound g c =
 
 pub returns-clause-sound : goal.returns-clause-sound
 returns-clause-sound g c =
-    told_sound (g.M.Shared.races c.args.mem.now) c.args.limits c.wants_stable-stable.result
+    told_sound g.M.Shared.races c.args.limits c.wants_stable-stable.result
     (g.M.Shared.sightings c.args.mem.now) (g.M.Shared.sightings c.tell.new.mem)
     (memory (g.M.Shared.sightings c.args.mem.now)) (memory (g.M.Shared.sightings c.tell.new.mem))
     c.args.window.now c.show_looks-progress.new.window c.show_drop-2.new.window c.in-Some.queue.now c.of-ring.result

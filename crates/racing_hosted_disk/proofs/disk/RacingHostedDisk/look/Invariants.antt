@@ -10,7 +10,7 @@ use Rattle.racing_hosted_disk.proofs.disk.RacingHostedDisk.look.Given as goal
 
 abbrev pub invariant-loop : goal.invariant-loop
 invariant-loop g l = record {
-  looking : IsLooking g.Q.RacingQueue.kind g.Q.RacingQueue.entry_of g.Q.RacingQueue.IsTaken l.fn.self.device (g.M.Shared.races l.fn.mem)
+  looking : IsLooking g.Q.RacingQueue.kind g.Q.RacingQueue.entry_of g.Q.RacingQueue.IsTaken l.fn.self.device g.M.Shared.races
       l.fn.limits l.fn.stable l.fn.stage l.here
       (place_at (g.M.Shared.sightings l.fn.mem) l.fn.queue l.fn.limits.budget l.fn.self.tags)
       (place_at (g.M.Shared.sightings l.mem) l.queue l.left l.self-inside.tags) l.counter l.wanted;
@@ -20,6 +20,5 @@ invariant-loop g l = record {
   ahead : AreAhead g.Q.RacingQueue.entry_of g.Q.KeepsFlights.Fits g.Q.KeepsFlights.ahead_of l.queue
       (tokens_of l.self-inside.tags);
   range : SameRange (memory (g.M.Shared.sightings l.fn.mem)) (memory (g.M.Shared.sightings l.mem));
-  races : g.M.Shared.races l.mem ≡ g.M.Shared.races l.fn.mem;
   lies : g.Q.RacingQueue.LiesIn (memory (g.M.Shared.sightings l.mem)) l.queue;
 }

@@ -24,4 +24,4 @@ returns-in_ok-before-in-Complete-clause-does g c =
     (completed g.Q.RacingQueue.kind g.Q.RacingQueue.entry_of g.Q.RacingQueue.IsTaken _ c.args.limits c.args.stable
     c.in-Complete.tag c.in-Complete.verdict c.args.self.now c.land.new.self _ _ _ _ _ _ _ _ _ _
     c.in_ok-before-in-Complete.ensures.rest (c.in_ok-before-in-Complete.ensures.lands c.args.limits.budget)
-    (rw c.in_ok-before-in-Complete.ensures.races at c.serve_from-served.ensures.serves))
+    c.serve_from-served.ensures.serves)

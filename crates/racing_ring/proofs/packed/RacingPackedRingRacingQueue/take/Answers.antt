@@ -16,6 +16,6 @@ returns-in-Ok-Some-clause-good g c =
 
 pub returns-in-Err-clause-lies : goal.returns-in-Err-clause-lies
 returns-in-Err-clause-lies g c =
-    let lies = packed_lies_loads (g.M.Shared.races c.args.mem.now) (g.M.Shared.sightings c.args.mem.now)
+    let lies = packed_lies_loads g.M.Shared.races (g.M.Shared.sightings c.args.mem.now)
     (g.M.Shared.sightings c.append_list.new.mem) c.args.self.now.setup c.append_list.ensures.loads c.requires in
     search (rules, lies)

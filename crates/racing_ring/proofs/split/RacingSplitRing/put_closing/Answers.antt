@@ -16,6 +16,6 @@ store_u16-requires-2 g c =
     let setup = c.self.inside.state.setup in
     let lies : LiesIn (memory (g.M.Shared.sightings c.args.mem.now)) setup = rw c.self.view_is c.requires in
     let after : LiesIn (memory (g.M.Shared.sightings c.store_u16.new.self)) setup =
-    lies_stores (g.M.Shared.races c.args.mem.now) (g.M.Shared.sightings c.args.mem.now)
+    lies_stores g.M.Shared.races (g.M.Shared.sightings c.args.mem.now)
     (g.M.Shared.sightings c.store_u16.new.self) _ _ _ setup c.store_u16.ensures.stores lies in
     inside_part after.device (omega arith) (omega (arith, c.from-entries.ensures))

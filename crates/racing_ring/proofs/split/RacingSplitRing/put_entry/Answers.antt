@@ -1,6 +1,6 @@
 use Rattle.split_ring.specs.Ring.{LiesIn}
 use Rattle.shared_memory.specs.Sightings.{memory}
-use Rattle.racing_ring.proofs.Lying.{entry_inside, lies_stores}
+use Rattle.racing_ring.proofs.Lying.{entry_inside}
 use Rattle.racing_ring.proofs.split.RacingSplitRing.put_entry.Goals as goal
 
 pub store_u64-requires : goal.store_u64-requires

@@ -2,7 +2,6 @@ use Rattle.std.proofs.Common.{arith}
 use Rattle.guest_memory.proofs.Ranges.{inside_part}
 use Rattle.split_ring.specs.Ring.{LiesIn}
 use Rattle.shared_memory.specs.Sightings.{memory}
-use Rattle.racing_ring.proofs.Lying.{lies_stores}
 use Rattle.racing_ring.proofs.split.RacingSplitRing.put_idx.Goals as goal
 
 pub store_u16-requires : goal.store_u16-requires

@@ -5,5 +5,5 @@ use Rattle.racing_service.proofs.sink.SinkRacingDeviceUnit.serve.Goals as goal
 
 pub returns-clause-does : goal.returns-clause-does
 returns-clause-does g c =
-    writes_nothing sink (g.M.Shared.races c.args.mem.now) (g.M.Shared.sightings c.args.mem.now) c.args.chain.now tt tt
+    writes_nothing sink g.M.Shared.races (g.M.Shared.sightings c.args.mem.now) c.args.chain.now tt tt
     c.requires.good refl
