@@ -29,7 +29,9 @@ pub(crate) fn note<A: Allocator>(paused: &mut Option<Pause>, turn: Turn<A>) -> R
 {
     match turn {
         Turn::Answered(reply) => {
-            *paused = None;
+            if paused.is_some() {
+                *paused = None;
+            }
             Response::Answered(reply)
         }
         Turn::More(pause) => {
