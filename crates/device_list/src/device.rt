@@ -114,6 +114,7 @@ impl<A: Allocator> VirtioDevice<A> {
     }
 
     /// Serves a piece of its queue of this number, within the budget.
+    #[inline(always)]
     pub(crate) fn serve<M: Allocator>(
         &mut self,
         q: u16,

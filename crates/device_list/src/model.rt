@@ -144,6 +144,7 @@ impl<A: Allocator> DeviceModel<A> {
 
     /// Serves a piece of the queue of this number in its window, within the budget. A look of a disk is never cut, and of a disk over
     /// the image nothing is served. `room` is where the chains stand, one after another.
+    #[inline(never)]
     pub(crate) fn serve<M: Allocator>(
         &mut self,
         q: u16,

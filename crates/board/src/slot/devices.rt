@@ -108,6 +108,7 @@ impl<A: Allocator + Copy> Slot<A> {
     }
 
     /// Writes a device's window, and has the device do its part, within the budget (4.2.2). A service over the image is to begin.
+    #[inline(always)]
     pub(crate) fn write_device(
         &mut self,
         device: u8,
@@ -177,6 +178,7 @@ impl<A: Allocator + Copy> Slot<A> {
     }
 
     /// Serves a piece of a further device's queue.
+    #[inline(always)]
     pub(super) fn serve_further(
         &mut self,
         device: u8,
@@ -210,6 +212,7 @@ impl<A: Allocator + Copy> Slot<A> {
     }
 
     /// Supplies a device with bytes, and has it serve the queue that waits for them, within the budget.
+    #[inline(always)]
     pub(crate) fn supply_device(&mut self, device: u8, bytes: &[u8], budget: Budget) -> Turn<A>
         ensures { BeginsAtDevice device (DeviceEvent.Supply bytes.now) budget self.old self.new result }
     {
@@ -220,6 +223,7 @@ impl<A: Allocator + Copy> Slot<A> {
     }
 
     /// Hands a network card a frame, and has it serve its receive queue, within the budget.
+    #[inline(always)]
     pub(crate) fn receive_frame(&mut self, device: u8, frame: &[u8], budget: Budget) -> Turn<A>
         ensures { BeginsAtDevice device (DeviceEvent.Receive frame.now) budget self.old self.new result }
     {
@@ -245,6 +249,7 @@ impl<A: Allocator + Copy> Slot<A> {
     }
 
     /// Drops what a device's driver sent, and has it serve its transmit queue, within the budget.
+    #[inline(always)]
     pub(crate) fn drop_sent(&mut self, device: u8, budget: Budget) -> Turn<A>
         ensures { BeginsAtDevice device DeviceEvent.DropSent budget self.old self.new result }
     {

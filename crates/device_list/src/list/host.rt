@@ -34,6 +34,7 @@ impl<A: Allocator> DeviceList<A> {
 
     /// Hands a network card a frame of its host. It waits until the driver offers a chain that it fits: the receive queue is to be
     /// served next. Where the frame is refused, nothing has changed.
+    #[inline(never)]
     pub fn receive(&mut self, device: u8, frame: &[u8]) -> Result<(), ReceiveRefusal>
         ensures fits { OnOk result (receive_refusal frame.now (card_at device self.old) ≡ None) }
         ensures received { OnOk result (self.new ≡ changed_at (with_model (received frame.now)) device self.old) }
