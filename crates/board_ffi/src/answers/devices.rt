@@ -135,8 +135,19 @@ fn copy(front: &[u8], back: &[u8], into: &mut [u8]) -> Result<usize, usize>
         return Err(count);
     }
     into[..front.len()].copy_from_slice(front);
-    into[front.len()..count].copy_from_slice(back);
+    put_part(back, &mut into[front.len()..count]);
     Ok(count)
+}
+
+// Copies bytes over as many. A card's frame has no second part, and a copy of no bytes is a call all the same.
+#[inline(always)]
+fn put_part(bytes: &[u8], into: &mut [u8])
+    requires { length into.old ≡ length bytes.now }
+    ensures { into.new ≡ bytes.now }
+{
+    if !bytes.is_empty() {
+        into.copy_from_slice(bytes);
+    }
 }
 
 /// Sets whether a network card's link is up.
