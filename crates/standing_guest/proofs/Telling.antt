@@ -134,16 +134,16 @@ module _ (A : Type 0) where
       first = put what m w tags;
       output = [];
       event = event what (put what m w tags) (rw (same_effect what (memory old) guest ∙ effect) (
-            record {
-              disk = record (own_disk state) {
-                tags = as_still tags;
-                on_hold = held_by what guest.block.disk.on_hold;
-              };
-              does = record { queue = told; is = refl };
-              is = refl;
-            },
-            refl,
-          ));
+        record {
+          disk = record (own_disk state) {
+            tags = as_still tags;
+            on_hold = held_by what guest.block.disk.on_hold;
+          };
+          does = record { queue = told; is = refl };
+          is = refl;
+        },
+        refl,
+      ));
       whole = λ rests.
           let all = whole rests in
           (same m w tags (held_by what guest.block.disk.on_hold) all.0 all.1 all.2, refl);
