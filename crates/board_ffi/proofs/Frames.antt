@@ -20,13 +20,14 @@ use Rattle.session.specs.declared.refusal.Refusal.{Refusal}
 use Rattle.session.specs.declared.refusal.Refusal.TheVariants.{BadSlot, BadRange, BadDevice, NoRoom, Busy, Idle}
 use Rattle.session.specs.declared.response.Response.{Response}
 use Rattle.session.specs.declared.response.Response.TheVariants.{Answered}
-use Rattle.session.specs.Answering.{Means, RefusalMeans, handed_by, handed_response}
+use Rattle.session.specs.Answering.{Means, handed_by, handed_response}
 use Rattle.session.specs.Devices.{TakesNothing, sent_at, sent_count}
 use Rattle.session.specs.Pacing.{paused_at}
 use Rattle.session.specs.Pausing.{IsToldCall, taken_at}
 use Rattle.session.specs.Session.{IsIdle, SessionState}
 use Rattle.board_ffi.specs.Codes.{StandsFor, handed_code, is_response, progress_code, refusal_code}
 use Rattle.board_ffi.specs.Devices.{IsCopied, TakesFrame, frame_at, frame_now}
+use Rattle.board_ffi.proofs.Writing.{refused}
 
 counted : (sent : Option (List ℕ)) → sent_count sent ≡ length (unwrap_or sent [])
 counted None = refl
@@ -162,16 +163,6 @@ module _ (slot n : ℕ) (old new : SessionState) where
       pauses More is never taken more = taken refl ∙ ap (λ (m : ℕ). Some m) (sym told)
       pauses Asks is never taken more = absurd (never refl)
 
-    -- a refusal of it
-    refusal : (why : Refusal) (response : Response Global) → RefusalMeans why response → code ≡ refusal_code why
-        → StandsFor code (Took (length (frame_at slot n old))) response × IsTrue (is_response code)
-    refusal BadSlot response so is = (inr (inl (is, so)), rw is refl)
-    refusal BadRange response so is = (inr (inr (inl (is, so))), rw is refl)
-    refusal BadDevice response so is = (inr (inr (inr (inl (is, so)))), rw is refl)
-    refusal NoRoom response so is = (inr (inr (inr (inr (inl (is, so))))), rw is refl)
-    refusal Busy response so is = (inr (inr (inr (inr (inr (inr (inl (is, so))))))), rw is refl)
-    refusal Idle response so is = (inr (inr (inr (inr (inr (inr (inr (inr (is, so)))))))), rw is refl)
-
     pub takes_frame : (r : Result Handed Refusal)
         → IsToldCall {A = Global} old slot (Device n DropSent) (Means handed_response r) new
         → (IsErrOf r Busy ↔ (IsIdle slot old → ⊥))
@@ -188,7 +179,7 @@ module _ (slot n : ℕ) (old new : SessionState) where
           taken = pauses handed idle counts told handed.progress is never taken;
         }
     takes_frame (Err why) h busy counts taken never told is =
-        let stands = refusal why h.response h.told is in
+        let stands = refused why code h.response h.told is in
         record {
           takes = record { response = h.response; call = h.call.turn; whole = h.call.whole; told = stands.0; code_is = stands.1 };
           moved = λ done. absurd (refused_code why code is done);

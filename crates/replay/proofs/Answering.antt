@@ -40,6 +40,7 @@ use Rattle.replay.specs.Telling.{LineTelling, SendsRun, Told, begun_at, begun_be
 use Rattle.hexadecimal.specs.Fields.{IsBytesField}
 use Rattle.trace.specs.declared.read.parsed_event.ParsedEvent.{ParsedEvent}
 use Rattle.trace.specs.ParsedEvent.{IsFineParsed, IsFineWhat, IsPlain, what_parsed}
+use Rattle.trace.specs.Printable.{IsPrintableKind, KindInRange}
 use Rattle.trace.specs.Text.{what_fields}
 use Rattle.trace.specs.Sends.{Sends}
 use Rattle.trace.specs.Text.{ended, joined, line}
@@ -201,51 +202,44 @@ bytes_written A disk old new slot addr bytes image answers is =
     (extents_put old.slots new.slots slot (λ found. stored found.memory addr bytes)
     (slice_get old.slots slot) refl is)
 
--- ---- bytes for a further device
+-- ---- what is done to a further device
 
-module _ {A I : Type 0} (disk : I → Disk) (parsed : ParsedEvent A) (old new : BoardState I) (n : ℕ)
-    (none bs : List ℕ) (reply : Reply A) (fine : IsFineParsed parsed) (says : IsBytesField parsed.bytes.now bs) where
-  -- those that the host supplied were the event's
-  pub supplied : parsed.event.what ≡ Device n (Supply none)
-      → AnswersEvent disk old (record { slot = parsed.event.slot; what = Device n (Supply bs) }) reply [] new
-      → AnswersParsed disk parsed old reply [] new
-  supplied is answered' = let what = rw is at fine.what in let spelled = says.spelled in record {
-    event = record { slot = parsed.event.slot; what = Device n (Supply bs) };
+module _ {A I : Type 0} (disk : I → Disk) (parsed : ParsedEvent A) (old new : BoardState I) (n : ℕ) (reply : Reply A)
+    (out : List ℕ) (fine : IsFineParsed parsed) where
+  -- what was done is the event that was said, with the bytes that are spelled
+  done_as : (given done : DeviceEvent A) → parsed.event.what ≡ Device n given
+      → what_fields parsed.event.slot (Device n done) ≡ what_parsed parsed.event.slot (Device n given) parsed.bytes.now
+      → KindInRange (Device n done) → IsPrintableKind (Device n done)
+      → completed_in (Device n given) ≡ completed_in (Device n done)
+      → AnswersEvent disk old (record { slot = parsed.event.slot; what = Device n done }) reply out new
+      → AnswersParsed disk parsed old reply out new
+  done_as given done is fields range printable completed answered' = record {
+    event = record { slot = parsed.event.slot; what = Device n done };
     slot = refl;
-    fields = rw (is, spelled) refl;
-    fine = record {
-      fits = record {
-        slot = fine.slot;
-        what = record { number = what.number; range = record { each = says.fits } };
-      };
-      printable = tt;
-    };
+    fields = rw is fields;
+    fine = record { fits = record { slot = fine.slot; what = range }; printable = printable };
     tag = rw is refl;
     device = rw is refl;
-    completed = rw is refl;
+    completed = rw is (sym completed);
     answered = answered';
   }
 
-  -- and so was a frame
-  pub received : parsed.event.what ≡ Device n (Receive none)
-      → AnswersEvent disk old (record { slot = parsed.event.slot; what = Device n (Receive bs) }) reply [] new
-      → AnswersParsed disk parsed old reply [] new
-  received is answered' = let what = rw is at fine.what in let spelled = says.spelled in record {
-    event = record { slot = parsed.event.slot; what = Device n (Receive bs) };
-    slot = refl;
-    fields = rw (is, spelled) refl;
-    fine = record {
-      fits = record {
-        slot = fine.slot;
-        what = record { number = what.number; range = record { each = says.fits } };
-      };
-      printable = tt;
-    };
-    tag = rw is refl;
-    device = rw is refl;
-    completed = rw is refl;
-    answered = answered';
-  }
+  module _ (none bs : List ℕ) (says : IsBytesField parsed.bytes.now bs) where
+    -- those that the host supplied
+    pub supplied : parsed.event.what ≡ Device n (Supply none)
+        → AnswersEvent disk old (record { slot = parsed.event.slot; what = Device n (Supply bs) }) reply out new
+        → AnswersParsed disk parsed old reply out new
+    supplied is answered' = let what = rw is at fine.what in let spelled = says.spelled in
+        done_as (Supply none) (Supply bs) is (rw spelled refl)
+        (record { number = what.number; range = record { each = says.fits } }) tt refl answered'
+
+    -- and those of a frame
+    pub received : parsed.event.what ≡ Device n (Receive none)
+        → AnswersEvent disk old (record { slot = parsed.event.slot; what = Device n (Receive bs) }) reply out new
+        → AnswersParsed disk parsed old reply out new
+    received is answered' = let what = rw is at fine.what in let spelled = says.spelled in
+        done_as (Receive none) (Receive bs) is (rw spelled refl)
+        (record { number = what.number; range = record { each = says.fits } }) tt refl answered'
 
 -- what else is done to a further device has no bytes
 without_bytes : {A : Type 0} (slot n : ℕ) (what : DeviceEvent A) (field : List ℕ)
@@ -262,21 +256,10 @@ pub said_alone : {A I : Type 0} (disk : I → Disk) (parsed : ParsedEvent A) (ol
     → parsed.event.what ≡ Device n what → ((bs : List ℕ) → what ≡ Supply bs → ⊥)
     → ((bs : List ℕ) → what ≡ Receive bs → ⊥) → AnswersEvent disk old parsed.event reply out new
     → AnswersParsed disk parsed old reply out new
-said_alone {A} disk parsed old new n what reply out fine is no_supply no_frame answered' =
+said_alone disk parsed old new n what reply out fine is no_supply no_frame answered' =
     let both = without_bytes parsed.event.slot n what parsed.bytes.now no_supply no_frame (rw is at fine.what) in
-    record {
-      event = parsed.event;
-      slot = refl;
-      fields = rw (is) both.0;
-      fine = record {
-        fits = record { slot = fine.slot; what = rw (is) both.1.range };
-        printable = rw (is) both.1.printable;
-      };
-      tag = refl;
-      device = refl;
-      completed = refl;
-      answered = answered';
-    }
+    done_as disk parsed old new n reply out fine what what is both.0 both.1.range both.1.printable refl
+    (subst (λ what'. AnswersEvent disk old (record { slot = parsed.event.slot; what = what' }) reply out new) is answered')
 
 -- ---- the record
 
