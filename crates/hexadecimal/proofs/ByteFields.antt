@@ -22,9 +22,6 @@ unfolding bytes
 bytes_some [] h = absurd (omega arith)
 bytes_some (b ∷ bs) h = refl
 
-pub bytes_above : (bs : List ℕ) → 0 < length (encode_lower bs) → bytes bs ≡ encode_lower bs
-bytes_above bs h = bytes_some bs (omega (arith, h, length-encode_with lower_digits bs))
-
 pub digits_encoded : (bs : List ℕ) → IsBytes bs → All IsDigit (encode_lower bs)
 unfolding digit encode_with
 digits_encoded [] h = All-nil IsDigit
