@@ -8,9 +8,7 @@ use Rattle.board.specs.declared.event.SlotWindow.TheVariants.{Block, Console}
 use Rattle.board.specs.declared.event.Event.{Event}
 use Rattle.board.specs.declared.event.EventKind.{EventKind}
 use Rattle.board.specs.declared.event.EventKind.TheVariants as what
-use Rattle.block_device.specs.declared.operation.HostEvent.{HostEvent}
 use Rattle.block_device.specs.declared.operation.HostEvent.TheVariants as host
-use Rattle.board.specs.declared.event.DeviceEvent.{DeviceEvent}
 use Rattle.board.specs.declared.event.DeviceEvent.TheVariants as device
 use Rattle.device_list.specs.declared.spec.DeviceSpec.{DeviceSpec}
 use Rattle.device_list.specs.declared.spec.DeviceSpec.TheVariants as spec
@@ -28,11 +26,11 @@ use Rattle.trace.specs.declared.word.Word.{Word}
 use Rattle.trace.specs.declared.word.Word.TheVariants.{Cache, Slot, Read, Write, MemRead, MemWrite, Input, Resize, Restore, Complete, Drop, Hold, Release, Plug, DeviceRead, DeviceWrite, Supply, Receive, TakeSent, DropSent, SetLink, DeviceResize, DeviceComplete, DeviceDrop, DeviceHold, DeviceRelease}
 use Rattle.trace.specs.Cuts.{fields_of}
 use Rattle.trace.specs.Faults.{AllSay, AreAsMany, MayStand, order, fault_of}
-use Rattle.trace.specs.Printable.{DoneInRange, HostInRange, KindInRange, IsPrintableDone, IsPrintableKind, IsPrintableMemory, SlotInRange}
+use Rattle.trace.specs.Printable.{KindInRange, IsPrintableKind, IsPrintableMemory, SlotInRange}
 use Rattle.trace.specs.Refusals.{IsFine, IsFineSlot}
 use Rattle.hexadecimal.specs.Spelling.{num, fixed, bytes}
 use Rattle.trace.specs.Spelling.{window, disk, mode, verdict, width_digit, region_text, regions_text, device_kind, spec_fields, link_state}
-use Rattle.trace.specs.Text.{line, cache_fields, cache_line, disk_fields, memory_fields, slot_fields, slot_line, device_fields, device_word, event_fields, event_line, host_fields, host_word, what_fields, word_for}
+use Rattle.trace.specs.Text.{line, cache_fields, cache_line, disk_fields, memory_fields, slot_fields, slot_line, event_fields, event_line, what_fields, word_for}
 use Rattle.trace.specs.Format.{unless_version_1}
 use Rattle.hexadecimal.specs.Fields.{IsBytesField, IsFixed}
 use Rattle.trace.specs.Words.{RegionInRange, Shape, Num, Disk as ByDisk, Offset, Window, Width, Value, Mode, Verdict as ByVerdict, Bytes, Identity as ByIdentity, Kind, Link, DiskInRange, SpecInRange, Says, behind_disk, disk_in, memory_in, shape_of, shapes, spelled, width_among, IsWidth, IsWordOf}
@@ -184,29 +182,17 @@ a_verdict : (came : Verdict) → Stands ByVerdict (verdict came)
 a_verdict Done = ((Done, refl), above_tested 32 (verdict Done) refl)
 a_verdict Failed = ((Failed, refl), above_tested 32 (verdict Failed) refl)
 
+above_kind : (spec : DeviceSpec) → SpecInRange spec → Above 32 (device_kind spec)
+above_kind (spec.Network mac mtu) fits =
+    above_append 32 (codes "network:") (bytes mac ++ 58 ∷ num mtu) (above_tested 32 (codes "network:") refl)
+    (above_append 32 (bytes mac) (58 ∷ num mtu) (bytes_digits mac fits.each) (omega arith, above_num mtu))
+above_kind (spec.Console cols rows) fits =
+    above_append 32 (codes "console:") (num cols ++ 58 ∷ num rows) (above_tested 32 (codes "console:") refl)
+    (above_append 32 (num cols) (58 ∷ num rows) (above_num cols) (omega arith, above_num rows))
+above_kind spec fits = above_tested 32 (device_kind spec) refl
+
 a_kind : (spec : DeviceSpec) → SpecInRange spec → Stands Kind (device_kind spec)
-a_kind spec.Entropy fits = (
-  (spec.Entropy, record { fits = tt; spelled = refl }),
-  above_tested 32 (device_kind spec.Entropy) refl,
-)
-a_kind (spec.Block sectors read_only identity depth) fits = (
-  (spec.Block sectors read_only identity depth, record { fits = fits; spelled = refl }),
-  above_tested 32 (codes "disk") refl,
-)
-a_kind (spec.Image extent read_only identity) fits = (
-  (spec.Image extent read_only identity, record { fits = fits; spelled = refl }),
-  above_tested 32 (codes "image") refl,
-)
-a_kind (spec.Network mac mtu) fits = (
-  (spec.Network mac mtu, record { fits = fits; spelled = refl }),
-  above_append 32 (codes "network:") (bytes mac ++ 58 ∷ num mtu) (above_tested 32 (codes "network:") refl)
-      (above_append 32 (bytes mac) (58 ∷ num mtu) (bytes_digits mac fits.each) (omega arith, above_num mtu)),
-)
-a_kind (spec.Console cols rows) fits = (
-  (spec.Console cols rows, record { fits = fits; spelled = refl }),
-  above_append 32 (codes "console:") (num cols ++ 58 ∷ num rows) (above_tested 32 (codes "console:") refl)
-      (above_append 32 (num cols) (58 ∷ num rows) (above_num cols) (omega arith, above_num rows)),
-)
+a_kind spec fits = ((spec, record { fits = fits; spelled = refl }), above_kind spec fits)
 
 an_identity : (bs : List ℕ) → AreBytes bs → length bs ≡ 20 → Stands ByIdentity (bytes bs)
 an_identity bs each twenty =
@@ -216,6 +202,9 @@ an_identity bs each twenty =
 a_link : (up : Bool) → Stands Link (link_state up)
 a_link true = ((true, refl), above_tested 32 (link_state true) refl)
 a_link false = ((false, refl), above_tested 32 (link_state false) refl)
+
+-- each field of an event's line
+ruleset each = (a_number, a_mode, an_offset, a_window, a_width, a_value, some_bytes, a_verdict, an_identity, a_link)
 
 -- ---- lines
 
@@ -304,19 +293,8 @@ slot_stands format s h =
     (memory_fields format s.regions) (disk_fields format s.backing s.spare ++ behind format s)
     (memory_stands format width s.regions fits.regions fits.few h.printable.memory)
     (stand_both (shape_of width) (disk_in format) (behind_disk format) (disk_fields format s.backing s.spare)
-    (behind format s) (disk_stands format width s h) (
-      a_number 64 s.extent.start fits.start,
-      (
-        a_number 64 s.extent.count fits.count,
-        (
-          a_mode s.read_only,
-          (
-            a_number 16 s.cols fits.cols,
-            (a_number 16 s.rows fits.rows, last_field format width s fits),
-          ),
-        ),
-      ),
-    ))
+    (behind format s) (disk_stands format width s h)
+    (let last = last_field format width s fits in search (each, last) depth 9 parts 9))
 
 pub entered_slot : (format : Format) (s : SlotSpec) → IsFineSlot format s
     → Entered format (slot_line format s) Slot
@@ -338,164 +316,40 @@ pub record EnteredEvent (format : Format) (l : List ℕ) : Type 0 where
   pub other : word ≢ Slot
   pub entry : Entered format l word
 
-host_late : (said : HostEvent) → MayStand 3 (host_word said)
-host_late (host.Complete tag came) = omega arith
-host_late said = omega arith
-
-device_late : {A : Type 0} (done : DeviceEvent A) → MayStand 3 (device_word done)
-device_late (device.Host host.Drop) = omega arith
-device_late done = omega arith
-
 may_be_late : {A : Type 0} (w : EventKind A) → MayStand 3 (word_for w)
-may_be_late (what.Host said) = host_late said
-may_be_late (what.Device n done) = device_late done
+may_be_late (what.Host host.Drop) = omega arith
+may_be_late (what.Device n (device.Host host.Drop)) = omega arith
 may_be_late w = omega arith
 
-host_no_slot : (said : HostEvent) → host_word said ≢ Slot
-host_no_slot (host.Complete tag came) e = absurd cc
-host_no_slot said e = absurd cc
-
-device_no_slot : {A : Type 0} (done : DeviceEvent A) → device_word done ≢ Slot
-device_no_slot (device.Host host.Drop) e = absurd cc
-device_no_slot done e = absurd cc
-
 no_slot : {A : Type 0} (w : EventKind A) → word_for w ≢ Slot
-no_slot (what.Host said) e = host_no_slot said e
-no_slot (what.Device n done) e = device_no_slot done e
+no_slot (what.Host host.Drop) e = absurd cc
+no_slot (what.Device n (device.Host host.Drop)) e = absurd cc
 no_slot w e = absurd cc
 
 -- the fields after its word
 abbrev event_rest : {A : Type 0} → ℕ → EventKind A → List (List ℕ)
 event_rest slot w = drop 1 (what_fields slot w)
 
-host_first : (slot : ℕ) (said : HostEvent)
-    → spelled (host_word said) ∷ drop 1 (host_fields slot said) ≡ host_fields slot said
-host_first slot (host.Complete tag came) = refl
-host_first slot said = refl
-
-device_first : {A : Type 0} (slot n : ℕ) (done : DeviceEvent A)
-    → spelled (device_word done) ∷ drop 1 (device_fields slot n done) ≡ device_fields slot n done
-device_first slot n (device.Host host.Drop) = refl
-device_first slot n done = refl
-
 word_first : {A : Type 0} (slot : ℕ) (w : EventKind A)
     → spelled (word_for w) ∷ event_rest slot w ≡ what_fields slot w
-word_first slot (what.Host said) = host_first slot said
-word_first slot (what.Device n done) = device_first slot n done
+word_first slot (what.Host host.Drop) = refl
+word_first slot (what.Device n (device.Host host.Drop)) = refl
 word_first slot w = refl
-
--- what a host says of its disk
-host_stands : (format : Format) (slot : ℕ) (said : HostEvent) → slot < 2 ^ 8 → HostInRange said
-    → EachStands (shapes format (host_word said) (drop 1 (host_fields slot said)))
-    (drop 1 (host_fields slot said))
-host_stands format slot (host.Complete tag came) lt range =
-    (a_number 8 slot lt, (a_number 8 tag range.small, (a_verdict came, tt)))
-host_stands format slot said lt range = (a_number 8 slot lt, tt)
 
 -- what a further device is to be
 plug_stands : (format : Format) (slot n : ℕ) (is : DeviceSpec) → slot < 2 ^ 8 → n < 2 ^ 8 → SpecInRange is
     → EachStands (shapes format Plug (num slot ∷ num n ∷ device_kind is ∷ spec_fields is))
     (num slot ∷ num n ∷ device_kind is ∷ spec_fields is)
-plug_stands format slot n (spec.Block sectors read_only identity depth) lt of range = (
-  a_number 8 slot lt,
-  (
-    a_number 8 n of,
-    (
-      a_kind (spec.Block sectors read_only identity depth) range,
-      (
-        a_number 64 sectors range.count,
-        (
-          a_mode read_only,
-          (an_identity identity range.each range.twenty, (a_number 8 depth range.deep, tt)),
-        ),
-      ),
-    ),
-  ),
-)
-plug_stands format slot n (spec.Image extent read_only identity) lt of range = (
-  a_number 8 slot lt,
-  (
-    a_number 8 n of,
-    (
-      a_kind (spec.Image extent read_only identity) range,
-      (
-        a_number 64 extent.start range.start,
-        (
-          a_number 64 extent.count range.count,
-          (a_mode read_only, (an_identity identity range.each range.twenty, tt)),
-        ),
-      ),
-    ),
-  ),
-)
-plug_stands format slot n is lt of range =
-    (a_number 8 slot lt, (a_number 8 n of, (a_kind is range, tt)))
-
--- what is done to a further device
-device_stands : {A : Type 0} (format : Format) (slot n : ℕ) (done : DeviceEvent A) → slot < 2 ^ 8 → n < 2 ^ 8
-    → DoneInRange done → IsPrintableDone done
-    → EachStands (shapes format (device_word done) (drop 1 (device_fields slot n done)))
-    (drop 1 (device_fields slot n done))
-device_stands format slot n (device.Plug is) lt of range fine = plug_stands format slot n is lt of range
-device_stands format slot n (device.Read offset width) lt of range fine = (
-  a_number 8 slot lt,
-  (a_number 8 n of, (an_offset offset fine.three_digits, (a_width width fine.wide, tt))),
-)
-device_stands format slot n (device.Write offset width value) lt of range fine =
-    let access = fine.access in (
-      a_number 8 slot lt,
-      (
-        a_number 8 n of,
-        (
-          an_offset offset access.three_digits,
-          (a_width width access.wide, (a_value width value access.wide fine.within, tt)),
-        ),
-      ),
-    )
-device_stands format slot n (device.Supply bs) lt of range fine =
-    (a_number 8 slot lt, (a_number 8 n of, (some_bytes bs range.each, tt)))
-device_stands format slot n (device.Receive bs) lt of range fine =
-    (a_number 8 slot lt, (a_number 8 n of, (some_bytes bs range.each, tt)))
-device_stands format slot n device.TakeSent lt of range fine = (a_number 8 slot lt, (a_number 8 n of, tt))
-device_stands format slot n device.DropSent lt of range fine = (a_number 8 slot lt, (a_number 8 n of, tt))
-device_stands format slot n (device.SetLink up) lt of range fine =
-    (a_number 8 slot lt, (a_number 8 n of, (a_link up, tt)))
-device_stands format slot n (device.Resize cols rows) lt of range fine =
-    (a_number 8 slot lt, (a_number 8 n of, (a_number 16 cols range.across, (a_number 16 rows range.down, tt))))
-device_stands format slot n (device.Host (host.Complete tag came)) lt of range fine =
-    (a_number 8 slot lt, (a_number 8 n of, (a_number 8 tag range.small, (a_verdict came, tt))))
-device_stands format slot n (device.Host said) lt of range fine = (a_number 8 slot lt, (a_number 8 n of, tt))
+plug_stands format slot n spec.Entropy lt of range = let kind = a_kind spec.Entropy range in search (each, kind) depth 9 parts 9
+plug_stands format slot n is lt of range = let kind = a_kind is range in search (each, kind) depth 9 parts 9
 
 event_stands : {A : Type 0} (format : Format) (slot : ℕ) (w : EventKind A) → slot < 2 ^ 8 → KindInRange w
     → IsPrintableKind w → EachStands (shapes format (word_for w) (event_rest slot w)) (event_rest slot w)
-event_stands format slot (what.Read kind offset width) lt range fine = (
-  a_number 8 slot lt,
-  (a_window kind, (an_offset offset fine.three_digits, (a_width width fine.wide, tt))),
-)
-event_stands format slot (what.Write kind offset width value) lt range fine =
-    let access = fine.access in (
-      a_number 8 slot lt,
-      (
-        a_window kind,
-        (
-          an_offset offset access.three_digits,
-          (a_width width access.wide, (a_value width value access.wide fine.within, tt)),
-        ),
-      ),
-    )
-event_stands format slot (what.MemRead addr len) lt range fine =
-    (a_number 8 slot lt, (a_number 64 addr range.from, (a_number 32 len range.size, tt)))
-event_stands format slot (what.MemWrite addr bs) lt range fine =
-    (a_number 8 slot lt, (a_number 64 addr range.from, (some_bytes bs range.each, tt)))
-event_stands format slot (what.Input bs) lt range fine =
-    (a_number 8 slot lt, (some_bytes bs range.each, tt))
-event_stands format slot (what.Resize cols rows) lt range fine =
-    (a_number 8 slot lt, (a_number 16 cols range.across, (a_number 16 rows range.down, tt)))
-event_stands format slot (what.Restore bs) lt range fine =
-    (a_number 8 slot lt, (some_bytes bs range.each, tt))
-event_stands format slot (what.Host said) lt range fine = host_stands format slot said lt range
-event_stands format slot (what.Device n done) lt range fine =
-    device_stands format slot n done lt range.number range.range fine
+event_stands format slot (what.Device n (device.Plug is)) lt range fine =
+    plug_stands format slot n is lt range.number range.range
+event_stands format slot (what.Device n (device.Host host.Drop)) lt range fine = search each depth 9 parts 9
+event_stands format slot (what.Host host.Drop) lt range fine = search each depth 9 parts 9
+event_stands format slot w lt range fine = search each depth 9 parts 9
 
 pub entered_event : {A : Type 0} (format : Format) (e : Event A) → IsFine e
     → IsWordOf format (word_for e.what) → EnteredEvent format (event_line e)

@@ -63,7 +63,7 @@ refused_not {A} e fault fine known h =
       count = refl;
     } in
     no_fault (text two) two 4 fault (alone_fits (e ∷ e ∷ []) all) refl
-    (is_refused (text two) one 4 rest so true (event_line e) (joined []) fault
+    (is_refused so true (event_line e) (joined []) fault
     (first_cut (event_line e) [] (unbroken e fine)) (λ _. omega arith) (λ no'. absurd cc) h known)
 
 pub never_refused : {A : Type 0} (e : Event A) → IsFine e → (fault : FaultKind)

@@ -73,9 +73,7 @@ module _ (kind : FaultKind) (width : List ℕ) where
       → IsAtFault kind (map (shape_of width) row) all (shape_of width (slice_index_or row 0 d)) bytes
   row_here [] all more d bytes some is of_kind fails = absurd (omega arith)
   row_here (f ∷ fs) all more d bytes some is of_kind fails =
-      subst (λ (fields : List (List ℕ)). IsAtFault kind (map (shape_of width) (f ∷ fs)) fields
-      (shape_of width f) bytes) (sym is)
-      (at_fault_here kind (shape_of width f) (map (shape_of width) fs) bytes more of_kind fails)
+      rw is (at_fault_here kind (shape_of width f) (map (shape_of width) fs) bytes more of_kind fails)
 
   -- at a later one, where the first passes
   pub row_later : (row others : List Field) (all more : List (List ℕ)) (d : Field) (bytes : List ℕ)
@@ -87,12 +85,8 @@ module _ (kind : FaultKind) (width : List ℕ) where
   row_later row others all more d bytes None some rest is passes later = tt
   row_later [] others all more d bytes (Some f) some rest is passes later = absurd (omega arith)
   row_later (first ∷ fs) others all more d bytes (Some f) some rest is passes later =
-      subst (λ (fields : List (List ℕ)). IsAtFault kind (map (shape_of width) (first ∷ fs)) fields
-      (shape_of width f.0) f.1.now) (sym is)
-      (at_fault_later kind (shape_of width first) (shape_of width f.0) (map (shape_of width) fs) bytes
-      f.1.now more passes
-      (subst (λ (os : List Field). IsAtFault kind (map (shape_of width) os) more (shape_of width f.0)
-      f.1.now) rest later))
+      rw is (at_fault_later kind (shape_of width first) (shape_of width f.0) (map (shape_of width) fs) bytes
+      f.1.now more passes (rw rest at later))
 
   -- at none
   pub row_none : (row others : List Field) (all more : List (List ℕ)) (d : Field) (bytes : List ℕ)
@@ -102,52 +96,7 @@ module _ (kind : FaultKind) (width : List ℕ) where
       → AllSay kind (map (shape_of width) others) more → AllSay kind (map (shape_of width) row) all
   row_none [] others all more d bytes some rest is passes later = absurd (omega arith)
   row_none (first ∷ fs) others all more d bytes some rest is passes later =
-      subst (λ (fields : List (List ℕ)). AllSay kind (map (shape_of width) (first ∷ fs)) fields) (sym is)
-      (passes, subst (λ (os : List Field). AllSay kind (map (shape_of width) os) more) rest later)
-
--- the fields after the word of a line
-module _ (kind : FaultKind) (format : Format) (line : List ℕ) (row : List Field) (width : List ℕ)
-    (behind : BehindKind) (first : List ℕ) (fields : List (List ℕ)) (word : Word) where
-  row_is : (w : Word) → first_field line ≡ spelled word → fields_of line ≡ first ∷ fields
-      → width ≡ slice_index_or fields 3 [] → behind ≡ behind_word (kind_among fields) → row ≡ fields_in format word behind → first_field line ≡ spelled w
-      → (map (shape_of width) row ≡ shapes format w (other_fields line)) × (fields ≡ other_fields line)
-  row_is w is cut by told table parsed =
-      let same : w ≡ word = same_word w word (sym parsed ∙ is) in
-      let others : fields ≡ other_fields line = sym (ap (drop 1) cut) in (
-        ap (λ (x : List ℕ). map (shape_of x) row) (by
-            ∙ ap (λ (fs : List (List ℕ)). slice_index_or fs 3 []) others)
-            ∙ ap (λ (fs : List Field). map (shape_of (width_among (other_fields line))) fs) (table
-            ∙ ap (fields_in format word) (told
-            ∙ ap (λ (fs : List (List ℕ)). behind_word (kind_among fs)) others))
-            ∙ ap (λ (v : Word). shapes format v (other_fields line)) (sym same),
-        others,
-      )
-
-  pub some_in : (found : Option (Field × Bor (List ℕ))) → first_field line ≡ spelled word
-      → fields_of line ≡ first ∷ fields → width ≡ slice_index_or fields 3 [] → behind ≡ behind_word (kind_among fields) → row ≡ fields_in format word behind
-      → IfSome found (λ f. IsAtFault kind (map (shape_of width) row) fields (shape_of width f.0) f.1.now)
-      → IfSome found (λ f. (w : Word) → first_field line ≡ spelled w
-      → IsAtFault kind (shapes format w (other_fields line)) (other_fields line)
-      (shape_of (width_among (other_fields line)) f.0) f.1.now)
-  some_in None is cut by told table found = tt
-  some_in (Some f) is cut by told table found = λ w parsed.
-      let same = row_is w is cut by told table parsed in
-      let wide : width ≡ width_among (other_fields line) = by
-      ∙ ap (λ (fs : List (List ℕ)). slice_index_or fs 3 []) same.1 in
-      subst (λ (x : List ℕ). IsAtFault kind (shapes format w (other_fields line)) (other_fields line)
-      (shape_of x f.0) f.1.now) wide
-      (subst (λ (fs : List (List ℕ)). IsAtFault kind (shapes format w (other_fields line)) fs
-      (shape_of width f.0) f.1.now) same.1
-      (subst (λ (ss : List Shape). IsAtFault kind ss fields (shape_of width f.0) f.1.now) same.0 found))
-
-  pub none_in : first_field line ≡ spelled word → fields_of line ≡ first ∷ fields
-      → width ≡ slice_index_or fields 3 [] → behind ≡ behind_word (kind_among fields) → row ≡ fields_in format word behind
-      → AllSay kind (map (shape_of width) row) fields → (w : Word) → first_field line ≡ spelled w
-      → AllSay kind (shapes format w (other_fields line)) (other_fields line)
-  none_in is cut by told table say = λ w parsed.
-      let same = row_is w is cut by told table parsed in
-      subst (λ (fs : List (List ℕ)). AllSay kind (shapes format w (other_fields line)) fs) same.1
-      (subst (λ (ss : List Shape). AllSay kind ss fields) same.0 say)
+      rw is (passes, rw rest at later)
 
 -- ---- from the checks of the fields to their fault
 
@@ -202,7 +151,7 @@ all_right (s ∷ ss) [] many n c b = absurd (omega (arith, many))
 all_right (s ∷ ss) (f ∷ fs) many n c b =
     (one_right s f n.0 c.0 b.0, all_right ss fs (omega (arith, many)) n.1 c.1 b.1)
 
--- the fields after a word, which aren't right
+-- the fields after the word of a line
 module _ (format : Format) (word : Word) (row : List Field) (width : List ℕ) (fields : List (List ℕ))
     (behind : BehindKind) (by : width ≡ slice_index_or fields 3 []) (told : behind ≡ behind_word (kind_among fields))
     (table : row ≡ fields_in format word behind) where
@@ -210,19 +159,34 @@ module _ (format : Format) (word : Word) (row : List Field) (width : List ℕ) (
   shapes_are = ap (λ (x : List ℕ). map (shape_of x) row) by
       ∙ ap (λ (fs : List Field). map (shape_of (width_among fields)) fs) (table ∙ ap (fields_in format word) told)
 
-  all_of : (kind : FaultKind) → AllSay kind (map (shape_of width) row) fields
-      → AllSay kind (shapes format word fields) fields
-  all_of kind h = subst (λ (ss : List Shape). AllSay kind ss fields) shapes_are h
+  pub some_in : (kind : FaultKind) (line first : List ℕ) (found : Option (Field × Bor (List ℕ)))
+      → first_field line ≡ spelled word → fields_of line ≡ first ∷ fields
+      → IfSome found (λ f. IsAtFault kind (map (shape_of width) row) fields (shape_of width f.0) f.1.now)
+      → IfSome found (λ f. (w : Word) → first_field line ≡ spelled w
+      → IsAtFault kind (shapes format w (other_fields line)) (other_fields line)
+      (shape_of (width_among (other_fields line)) f.0) f.1.now)
+  some_in kind line first None is cut found = tt
+  some_in kind line first (Some f) is cut found = λ w parsed.
+      let same : w ≡ word = same_word w word (sym parsed ∙ is) in
+      let others : other_fields line ≡ fields = ap (drop 1) cut in
+      rw (same, others) (rw (shapes_are, by) at found)
 
+  pub none_in : (kind : FaultKind) (line first : List ℕ) → first_field line ≡ spelled word
+      → fields_of line ≡ first ∷ fields → AllSay kind (map (shape_of width) row) fields
+      → (w : Word) → first_field line ≡ spelled w → AllSay kind (shapes format w (other_fields line)) (other_fields line)
+  none_in kind line first is cut say = λ w parsed.
+      let same : w ≡ word = same_word w word (sym parsed ∙ is) in
+      let others : other_fields line ≡ fields = ap (drop 1) cut in
+      rw (same, others) (rw shapes_are at say)
+
+  -- they aren't right
   pub bytes_refused : ¬ AreRight format word fields → length fields ≡ length row
       → AllSay kind.Number (map (shape_of width) row) fields
       → AllSay kind.Choice (map (shape_of width) row) fields → RefusesFields format word fields kind.Bytes
   bytes_refused wrong many numbers choices =
       let counted : length row ≡ length (shapes format word fields) = sym (rw length-map refl)
-      ∙ ap length shapes_are in (
-        many ∙ counted,
-        all_of kind.Number numbers,
-        all_of kind.Choice choices,
-        λ all. wrong (all_right (shapes format word fields) fields (many
-            ∙ counted) (all_of kind.Number numbers) (all_of kind.Choice choices) all),
-      )
+      ∙ ap length shapes_are in
+      let all_there : length fields ≡ length (shapes format word fields) = many ∙ counted in
+      let number : AllSay kind.Number (shapes format word fields) fields = rw shapes_are at numbers in
+      let choice : AllSay kind.Choice (shapes format word fields) fields = rw shapes_are at choices in
+      (all_there, number, choice, λ all. wrong (all_right (shapes format word fields) fields all_there number choice all))

@@ -8,7 +8,7 @@ use Rattle.trace.specs.declared.format.Format.TheVariants.{Plain, Extended}
 use Rattle.trace.specs.declared.format.Version.{Version}
 use Rattle.trace.specs.declared.format.Version.TheVariants.{One, Two}
 use Rattle.trace.specs.declared.word.Word.{Word}
-use Rattle.trace.specs.declared.word.Word.TheVariants.{Restore, Complete, Drop, Hold, Release, Plug, DeviceRead, DeviceWrite, Supply, Receive, TakeSent, DropSent, SetLink, DeviceResize, DeviceComplete, DeviceDrop, DeviceHold, DeviceRelease}
+use Rattle.trace.specs.declared.word.Word.TheVariants.{Cache}
 use Rattle.trace.specs.Format.{GoesInto, if_extended, unless_version_1}
 use Rattle.trace.specs.Printable.{IsPrintable, IsPrintableDisk, IsPrintableMemory, IsPrintableSlot}
 use Rattle.trace.specs.Text.{Content, as_format, word_for}
@@ -29,25 +29,8 @@ map_if_extended f Extended xs = refl
 
 -- the extended format has every word
 pub word_of_extended : (word : Word) → IsWordOf Extended word
-word_of_extended Restore = refl
-word_of_extended Complete = refl
-word_of_extended Drop = refl
-word_of_extended Hold = refl
-word_of_extended Release = refl
-word_of_extended Plug = refl
-word_of_extended DeviceRead = refl
-word_of_extended DeviceWrite = refl
-word_of_extended Supply = refl
-word_of_extended Receive = refl
-word_of_extended TakeSent = refl
-word_of_extended DropSent = refl
-word_of_extended SetLink = refl
-word_of_extended DeviceResize = refl
-word_of_extended DeviceComplete = refl
-word_of_extended DeviceDrop = refl
-word_of_extended DeviceHold = refl
-word_of_extended DeviceRelease = refl
-word_of_extended word = tt
+word_of_extended Cache = tt
+word_of_extended word = search
 
 -- ---- from one format into another
 
@@ -62,25 +45,8 @@ goes_extended old (Plain Two) goes is = absurd (goes is)
 goes_extended old Extended goes is = refl
 
 word_goes : (old new : Format) (word : Word) → GoesInto old new → IsWordOf old word → IsWordOf new word
-word_goes old new Restore goes h = goes_extended old new goes h
-word_goes old new Complete goes h = goes_extended old new goes h
-word_goes old new Drop goes h = goes_extended old new goes h
-word_goes old new Hold goes h = goes_extended old new goes h
-word_goes old new Release goes h = goes_extended old new goes h
-word_goes old new Plug goes h = goes_extended old new goes h
-word_goes old new DeviceRead goes h = goes_extended old new goes h
-word_goes old new DeviceWrite goes h = goes_extended old new goes h
-word_goes old new Supply goes h = goes_extended old new goes h
-word_goes old new Receive goes h = goes_extended old new goes h
-word_goes old new TakeSent goes h = goes_extended old new goes h
-word_goes old new DropSent goes h = goes_extended old new goes h
-word_goes old new SetLink goes h = goes_extended old new goes h
-word_goes old new DeviceResize goes h = goes_extended old new goes h
-word_goes old new DeviceComplete goes h = goes_extended old new goes h
-word_goes old new DeviceDrop goes h = goes_extended old new goes h
-word_goes old new DeviceHold goes h = goes_extended old new goes h
-word_goes old new DeviceRelease goes h = goes_extended old new goes h
-word_goes old new word goes h = tt
+word_goes old new Cache goes h = tt
+word_goes old new word goes h = search goes_extended
 
 -- what holds in the extended format and, if in one plain format, in each goes along
 goes_by : (P : Format → Type 0) (old new : Format) → GoesInto old new → (P old → P Extended)

@@ -3,20 +3,19 @@ use Rattle.std.proofs.Common.{◌≡◌, ℕ, ◌<◌, ◌≤◌, List, [], ◌�
 use Rattle.std.specs.Prelude.{OnSome}
 use Rattle.std.specs.List.{AllByRecursion, join_with_byte}
 use Rattle.std.proofs.lemmas.List.{append-nil, get_or-map, get_or_at, length-append, length-map}
-use Rattle.hexadecimal.specs.Fields.{IsNum, SpellsNumber}
 use Rattle.hexadecimal.specs.Spelling.{num}
 use Rattle.guest_memory.specs.declared.spec.RegionSpec.{RegionSpec}
 use Rattle.trace.specs.Cuts.{parts, parts_left}
 use Rattle.trace.specs.Spelling.{region_text, regions_text}
 use Rattle.trace.specs.Words.{IsRegionField, IsRegionsField, RegionInRange, Regions, Says}
-use Rattle.trace.proofs.Pairs.{IsNoDigit, bad_second, free_num, joined_parts, low_sign, no_first, no_second, pair_parts, pair_read, parts_joined, some_parts}
+use Rattle.trace.proofs.Pairs.{IsNoDigit, free_num, joined_parts, low_sign, pair_parts, parts_joined, some_parts}
 use Rattle.trace.proofs.Signs.{Free}
 
 free_append : (sign : ℕ) (xs ys : List ℕ) → Free sign xs → Free sign ys → Free sign (xs ++ ys)
 free_append sign [] ys hx hy = hy
 free_append sign (x ∷ xs) ys hx hy = (hx.0, free_append sign xs ys hx.1 hy)
 
-plus : IsNoDigit 43
+pub plus : IsNoDigit 43
 plus = low_sign 43 (omega arith)
 
 comma : IsNoDigit 44
@@ -27,26 +26,6 @@ comma = low_sign 44 (omega arith)
 pub region_parts : (region : RegionSpec) → parts 43 (region_text region) ≡ num region.base
     ∷ num region.len ∷ []
 region_parts region = pair_parts 43 region.base region.len plus
-
-module _ (part base : List ℕ) (rest : Option (List ℕ)) (cut : parts 43 part ≡ base ∷ parts_left 43 rest) where
-  pub no_base : ¬ SpellsNumber 64 base → (region : RegionSpec) → ¬ IsRegionField part region
-  no_base none region is =
-      no_first 43 64 plus part base rest cut none region.base region.len is.fits.base is.spelled
-
-  pub no_len : rest ≡ None → (region : RegionSpec) → ¬ IsRegionField part region
-  no_len none region is = no_second 43 64 plus part base rest cut none region.base region.len is.spelled
-
-  pub bad_len : (len : List ℕ) → rest ≡ Some len → ¬ SpellsNumber 64 len → (region : RegionSpec)
-      → ¬ IsRegionField part region
-  bad_len len some none region is =
-      bad_second 43 64 plus part base rest cut len some none region.base region.len is.fits.len is.spelled
-
-  pub region_read : (b l : ℕ) (len : List ℕ) → rest ≡ Some len → IsNum 64 base b → IsNum 64 len l
-      → IsRegionField part (record { base = b; len = l })
-  region_read b l len some first second = record {
-    fits = record { base = first.fits; len = second.fits };
-    spelled = pair_read 43 64 plus part base rest cut b l len some first second;
-  }
 
 -- ---- the regions of a field
 

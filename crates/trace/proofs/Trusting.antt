@@ -1,6 +1,7 @@
 -- Lines that were validated, which are read without a test: their parts by their word, and what was taken off.
 use Rattle.std.proofs.Common.{◌≡◌, ℕ, ◌+◌, ◌*◌, ◌^◌, ◌<◌, ◌≤◌, List, [], ◌∷◌, ◌++◌, length, get_or, drop, refl, sym, ap, subst, ◌∙◌, append_assoc, length-drop, arith}
 use Rattle.board.specs.declared.event.SlotWindow.{SlotWindow}
+use Rattle.board.specs.declared.event.Event.{Event}
 use Rattle.board.specs.declared.event.EventKind.{EventKind}
 use Rattle.board.specs.declared.event.EventKind.TheVariants as what
 use Rattle.board.specs.declared.event.DeviceEvent.TheVariants as device
@@ -11,7 +12,8 @@ use Rattle.trace.specs.declared.read.parsed_event.ParsedEvent.{ParsedEvent}
 use Rattle.trace.specs.declared.word.Word.TheVariants.{Read, Write, MemWrite, Input}
 use Rattle.trace.specs.Events.{BeginsWithAccess, BeginsWithEvent, HasAccess, HasBytes, HasNumber, HasSlot, HasValue, IsLineOf, TakesEvent}
 use Rattle.trace.specs.Spelling.{window}
-use Rattle.trace.specs.Text.{event_line}
+use Rattle.trace.specs.ParsedEvent.{IsFineWhat, parsed_fields}
+use Rattle.trace.specs.Text.{event_fields, event_line}
 use Rattle.trace.specs.Words.{IsWidth, spelled}
 use Rattle.trace.proofs.Entries.{fits_digits}
 use Rattle.trace.proofs.EventLines.{line_taken}
@@ -219,60 +221,45 @@ input_parts A rest h = by_input A rest h.event.slot h.event.what h.after h.begin
 
 -- ---- what was taken off
 
+-- it is the line of an event, with its fields
+taken_off : {A : Type 0} (text : List ℕ) (event : Event A) (last : List ℕ) (s : ParsedEvent A) (after : List ℕ)
+    → IsLineOf text event last → after ≡ last → event_fields event ≡ parsed_fields s → s.event.slot ≡ event.slot
+    → IsFineWhat s.event.what s.bytes.now → TakesEvent text s after
+taken_off text event last s after line behind same slot fine =
+    rw behind (line_taken s event text last line same (record { slot = rw slot line.fine.fits.slot; what = fine }))
+
 pub read_taken : (A : Type 0) (rest : List ℕ) (p : ReadParts A rest) (s : ParsedEvent A) (after : List ℕ)
     → after ≡ p.after → s.event ≡ record { slot = p.slot; what = what.Read p.kind p.offset p.width }
     → s.bytes.now ≡ [] → TakesEvent (spelled Read ++ 32 ∷ rest) s after
 read_taken A rest p s after behind is none =
-    let fine = p.line.fine in
-    rw behind (line_taken s (record { slot = p.slot; what = what.Read p.kind p.offset p.width })
-    (spelled Read ++ 32 ∷ rest) p.after p.line (rw is refl)
-    (record {
-      slot = rw is fine.fits.slot;
-      what = rw is (record { range = tt; printable = fine.printable; none = none });
-    }))
+    taken_off _ _ p.after s after p.line behind (rw is refl) (rw is refl)
+    (rw is (record { range = tt; printable = p.line.fine.printable; none = none }))
 
 pub write_taken : (A : Type 0) (rest : List ℕ) (p : WriteParts A rest) (s : ParsedEvent A) (after : List ℕ)
     → after ≡ p.after → s.event ≡ record { slot = p.slot; what = what.Write p.kind p.offset p.width p.value }
     → s.bytes.now ≡ [] → TakesEvent (spelled Write ++ 32 ∷ rest) s after
 write_taken A rest p s after behind is none =
-    let fine = p.line.fine in
-    rw behind (line_taken s (record { slot = p.slot; what = what.Write p.kind p.offset p.width p.value })
-    (spelled Write ++ 32 ∷ rest) p.after p.line (rw is refl)
-    (record {
-      slot = rw is fine.fits.slot;
-      what = rw is (record { range = tt; printable = fine.printable; none = none });
-    }))
+    taken_off _ _ p.after s after p.line behind (rw is refl) (rw is refl)
+    (rw is (record { range = tt; printable = p.line.fine.printable; none = none }))
 
 pub mem_write_taken : (A : Type 0) (rest : List ℕ) (p : MemWriteParts A rest) (s : ParsedEvent A)
     (none after : List ℕ) → s.bytes.now ≡ bytes p.bs → after ≡ p.after → none ≡ []
     → s.event ≡ record { slot = p.slot; what = what.MemWrite p.addr none }
     → TakesEvent (spelled MemWrite ++ 32 ∷ rest) s after
 mem_write_taken A rest p s none after said behind empty is =
-    let fine = p.line.fine in
-    let says : IsBytesField s.bytes.now p.bs = record { fits = fine.fits.what.each; spelled = said } in
-    rw behind (line_taken s (record { slot = p.slot; what = what.MemWrite p.addr p.bs })
-    (spelled MemWrite ++ 32 ∷ rest) p.after p.line (rw (is, said) refl)
-    (record {
-      slot = rw is fine.fits.slot;
-      what = rw is (record {
-        from = fine.fits.what.from;
-        bytes = record { none = empty; parsed = (p.bs, says) };
-      });
-    }))
+    let fits = p.line.fine.fits.what in
+    let says : IsBytesField s.bytes.now p.bs = record { fits = fits.each; spelled = said } in
+    taken_off _ _ p.after s after p.line behind (rw (is, said) refl) (rw is refl)
+    (rw is (record { from = fits.from; bytes = record { none = empty; parsed = (p.bs, says) } }))
 
 pub input_taken : (A : Type 0) (rest : List ℕ) (p : InputParts A rest) (s : ParsedEvent A)
     (none after : List ℕ) → s.bytes.now ≡ bytes p.bs → after ≡ p.after → none ≡ []
     → s.event ≡ record { slot = p.slot; what = what.Input none }
     → TakesEvent (spelled Input ++ 32 ∷ rest) s after
 input_taken A rest p s none after said behind empty is =
-    let fine = p.line.fine in
-    let says : IsBytesField s.bytes.now p.bs = record { fits = fine.fits.what.each; spelled = said } in
-    rw behind (line_taken s (record { slot = p.slot; what = what.Input p.bs }) (spelled Input ++ 32 ∷ rest)
-    p.after p.line (rw (is, said) refl)
-    (record {
-      slot = rw is fine.fits.slot;
-      what = rw is (record { none = empty; parsed = (p.bs, says) });
-    }))
+    let says : IsBytesField s.bytes.now p.bs = record { fits = p.line.fine.fits.what.each; spelled = said } in
+    taken_off _ _ p.after s after p.line behind (rw (is, said) refl) (rw is refl)
+    (rw is (record { none = empty; parsed = (p.bs, says) }))
 
 -- ---- what is behind what was read
 

@@ -533,11 +533,10 @@ empty_past : {A : Type 0} (whole : List ℕ) (c : Content A) (k : ℕ) → Fits 
     → 3 + (length c.slots + length c.events) ≤ k → line_at whole k ≡ []
 empty_past whole c k h e le =
     let so = whole_so whole c h e in
-    let total = lines_left whole c (3 + (length c.slots + length c.events)) [] so in
+    let total = lines_left so in
     let last = ap length nothing_left in
     elim (cases_eq k (3 + (length c.slots + length c.events))) [
-      | inl here ↦ ap (line_at whole) here ∙ next_is whole c (3 + (length c.slots + length c.events)) [] so
-          ∙ same_at nothing_left 0
+      | inl here ↦ ap (line_at whole) here ∙ next_is so ∙ same_at nothing_left 0
       | inr later ↦ get_or_past (lines_of whole) (k - 1) [] (omega arith)
     ]
 
@@ -546,10 +545,10 @@ every_check : {A : Type 0} (whole : List ℕ) (c : Content A) (k : ℕ) (fault :
     → whole ≡ text c → 1 ≤ k → Passes whole k fault
 every_check whole c k fault h e numbered =
     let so = whole_so whole c h e in
-    let total = lines_left whole c (3 + (length c.slots + length c.events)) [] so in
+    let total = lines_left so in
     let last = ap length nothing_left in
     elim (cases_lt k (3 + (length c.slots + length c.events))) [
-      | inl before ↦ clean whole c (3 + (length c.slots + length c.events)) [] so k numbered before fault
+      | inl before ↦ clean so k numbered before fault
       | inr after ↦ past whole k (omega arith) (λ end. omega arith) (empty_past whole c k h e after) fault
     ]
 

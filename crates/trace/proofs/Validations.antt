@@ -91,23 +91,23 @@ pub record ValidatedSofar (A : Type 0) (whole : List ℕ) (j : Validation) (k : 
   pub numbered : 1 ≤ j.longest_line
 
 -- the first two lines
-pub validated_first : (A : Type 0) (whole : List ℕ) (format : Format) (cache : ℕ) (rest : List ℕ)
-    → Sofar {A = A} whole (record { format = format; cache = cache; slots = []; events = [] }) 3 rest
+pub validated_first : (A : Type 0) (whole : List ℕ) (format : Format) (cache : ℕ) (slots : List SlotSpec) (rest : List ℕ)
+    → slots ≡ [] → Sofar {A = A} whole (record { format = format; cache = cache; slots = []; events = [] }) 3 rest
     → ValidatedSofar A whole (record {
       format = format;
       cache = cache;
-      slots = [];
+      slots = slots;
       events = rest;
       longest = 0;
       longest_line = 1;
     }) 3 rest
 unfolding joined
-validated_first A whole format cache rest so = record {
+validated_first A whole format cache slots rest none so = record {
   trace = record { format = format; cache = cache; slots = []; events = [] };
   so = so;
   format = refl;
   cache = refl;
-  slots = refl;
+  slots = sym none;
   lines = refl;
   fit = All-nil (λ (e : Event A). bytes_len e.what ≤ 0);
   numbered = omega arith;
@@ -119,93 +119,6 @@ no_lines : {A : Type 0} (es : List (Event A)) (rest : List ℕ) → length es �
 unfolding joined
 no_lines [] rest none = refl
 no_lines (e ∷ es) rest none = absurd (omega arith)
-
-module _ (A : Type 0) (whole : List ℕ) (j : Validation) (k : ℕ) (rest : List ℕ)
-    (s : ValidatedSofar A whole j k rest) where
-  -- events have begun where their lines begin before the rest
-  pub some_events : length j.events ≢ length rest → 0 < length s.trace.events
-  some_events other =
-      elim (cases_lt 0 (length s.trace.events)) [
-        | inl some ↦ some
-        | inr none ↦ absurd (other (ap length (s.lines ∙ sym (no_lines s.trace.events rest (omega arith)))))
-      ]
-
-  pub no_events : length j.events ≡ length rest → length s.trace.events ≡ 0
-  no_events same =
-      omega (
-        arith,
-        ap length s.lines,
-        length-append (joined (map event_line s.trace.events)) rest,
-        length_joined (map event_line s.trace.events),
-        length-map s.trace.events event_line,
-      )
-
--- one line more
-slot_more : (A : Type 0) (whole : List ℕ) (j : Validation) (k : ℕ) (rest l after : List ℕ) (begun : Bool)
-    (slot : SlotSpec) → ValidatedSofar A whole j k rest → rest ≡ l ++ 10 ∷ after
-    → begun ≡ not (length j.events == length rest) → SaysSlot j.format begun l slot
-    → ValidatedSofar A whole (record j { slots = j.slots ++ slot ∷ []; events = after }) (k + 1) after
-slot_more A whole j k rest l after begun slot s cut test parsed =
-    let same : (length j.events == length rest) ≡ true =
-    elim (cases_Bool (length j.events == length rest))
-    [ inl same ↦ same | inr other ↦ absurd (parsed.early (test ∙ ap not other)) ] in
-    let none = no_events A whole j k rest s (eqb-true (length j.events) (length rest) same) in
-    let is = subst (λ (v : Format). fields_of l ≡ slot_fields v slot) (sym s.format) parsed.fields in
-    let fine = subst (λ (v : Format). IsFineSlot v slot) (sym s.format) parsed.fine in
-    record {
-      trace = with_slot s.trace slot;
-      so = slot_read whole s.trace k rest l after slot s.so cut is fine none;
-      format = s.format;
-      cache = s.cache;
-      slots = ap (λ (ss : List SlotSpec). ss ++ slot ∷ []) s.slots;
-      lines = no_lines s.trace.events after none;
-      fit = s.fit;
-      numbered = s.numbered;
-    }
-
-event_more : (A : Type 0) (whole : List ℕ) (j : Validation) (k longest longest_line : ℕ)
-    (rest l after : List ℕ) (event : Event A) → ValidatedSofar A whole j k rest → rest ≡ l ++ 10 ∷ after
-    → SaysEvent j.format l event → bytes_len event.what ≤ longest → j.longest ≤ longest → 1 ≤ longest_line
-    → ValidatedSofar A whole (record j { longest = longest; longest_line = longest_line }) (k + 1) after
-unfolding event_line
-event_more A whole j k longest longest_line rest l after event s cut parsed fits longer numbered =
-    let es = s.trace.events in
-    record {
-      trace = with_event s.trace event;
-      so = event_read whole s.trace k rest l after event s.so cut parsed.fields parsed.fine
-          (subst (λ (v : Format). IsWordOf v (word_for event.what)) (sym s.format) parsed.of_format);
-      format = s.format;
-      cache = s.cache;
-      slots = s.slots;
-      lines = taken j.events (map event_line es) (map event_line (es ++ event ∷ [])) rest l after s.lines cut
-          (map_push event_line es event
-          ∙ ap (λ (x : List ℕ). map event_line es
-          ++ x ∷ []) (sym (line-fields_of l (event_fields event) parsed.fields)));
-      fit = All-push (λ (e : Event A). bytes_len e.what ≤ longest) es event
-          (All-weaker (λ (e : Event A). bytes_len e.what ≤ j.longest)
-          (λ (e : Event A). bytes_len e.what ≤ longest) (λ e h. omega arith) es s.fit) fits;
-      numbered = numbered;
-    }
-
-pub validated_more : (A : Type 0) (whole : List ℕ) (j new : Validation) (k : ℕ) (rest l after : List ℕ)
-    (begun : Bool) → ValidatedSofar A whole j k rest → rest ≡ l ++ 10 ∷ after
-    → begun ≡ not (length j.events == length rest) → ValidatesLine A begun l after j new
-    → ValidatedSofar A whole new (k + 1) after
-validated_more A whole j new k rest l after begun s cut test (inl validates) =
-    subst (λ (n : Validation). ValidatedSofar A whole n (k + 1) after) (sym validates.is)
-    (slot_more A whole j k rest l after begun validates.slot s cut test validates.parsed)
-validated_more A whole j new k rest l after begun s cut test (inr validates) =
-    subst (λ (n : Validation). ValidatedSofar A whole n (k + 1) after) (sym validates.is)
-    (event_more A whole j k new.longest new.longest_line rest l after validates.event s cut validates.parsed
-    validates.fits validates.longer (validates.numbered s.numbered))
-
-pub first_more : (A : Type 0) (whole : List ℕ) (j new : Validation) (k : ℕ) (rest after : List ℕ)
-    → ValidatedSofar A whole j k rest → ValidatesFirst A rest after j new
-    → ValidatedSofar A whole new (k + 1) after
-first_more A whole j new k rest after s h =
-    validated_more A whole j new k rest h.line after (begun_before j rest) s h.ended refl h.validated
-
--- ---- what is answered
 
 -- a fault of the text, which is then no trace's
 pub is_fault : (A : Type 0) (whole : List ℕ) (fault : TraceFault)
@@ -219,71 +132,135 @@ is_fault A whole fault named numbered clean' = record {
   clean = clean';
 }
 
--- the fault of a line after the second
-pub fault_later : (A : Type 0) (whole : List ℕ) (j : Validation) (k : ℕ) (rest : List ℕ) (fault : TraceFault)
-    → ValidatedSofar A whole j k rest → fault.line ≡ k
-    → (fault.kind ≢ kind.NoMemory → IsFault whole k fault.kind) → IsTraceFault A whole fault
-fault_later A whole j k rest fault s here named =
-    let count = s.so.count in
-    is_fault A whole fault (rw here named) (omega arith) (rw here (clean whole s.trace k rest s.so))
+module _ {A : Type 0} {whole : List ℕ} {j : Validation} {k : ℕ} {rest : List ℕ}
+    (s : ValidatedSofar A whole j k rest) where
+  -- events have begun where their lines begin before the rest
+  some_events : length j.events ≢ length rest → 0 < length s.trace.events
+  some_events other =
+      elim (cases_lt 0 (length s.trace.events)) [
+        | inl some ↦ some
+        | inr none ↦ absurd (other (ap length (s.lines ∙ sym (no_lines s.trace.events rest (omega arith)))))
+      ]
 
--- the next line isn't ended
-pub is_cut_off : (A : Type 0) (whole : List ℕ) (j : Validation) (k : ℕ) (rest : List ℕ)
-    → ValidatedSofar A whole j k rest → lines_of rest ≡ rest ∷ [] → length rest ≢ 0 → IsFault whole k kind.Cut
-is_cut_off A whole j k rest s last some = is_cut whole s.trace k rest s.so last (λ e. some (ap length e))
+  no_events : length j.events ≡ length rest → length s.trace.events ≡ 0
+  no_events same =
+      omega (
+        arith,
+        ap length s.lines,
+        length-append (joined (map event_line s.trace.events)) rest,
+        length_joined (map event_line s.trace.events),
+        length-map s.trace.events event_line,
+      )
 
--- the next line is refused
-pub is_refused_now : (A : Type 0) (whole : List ℕ) (j : Validation) (k : ℕ) (rest l after : List ℕ)
-    (begun : Bool) (fault : FaultKind) → ValidatedSofar A whole j k rest → lines_of rest ≡ l ∷ lines_of after
-    → begun ≡ not (length j.events == length rest) → RefusesLine j.format begun l fault
-    → fault ≢ kind.NoMemory → IsFault whole k fault
-is_refused_now A whole j k rest l after begun fault s cut test h known =
-    is_refused whole s.trace k rest s.so begun l after fault cut
-    (λ so. some_events A whole j k rest s
-    (λ e. absurd (true≢false (sym so ∙ test ∙ ap not (eq-eqb (length j.events) (length rest) e)))))
-    (λ no'. no_events A whole j k rest s
-    (eqb-true (length j.events) (length rest)
-    (not-false (length j.events == length rest) (sym test ∙ no'))))
-    (subst (λ (v : Format). RefusesLine v begun l fault) (sym s.format) h) known
+  -- one line more
+  slot_more : (l after : List ℕ) (slot : SlotSpec) → rest ≡ l ++ 10 ∷ after
+      → SaysSlot j.format (begun_before j rest) l slot
+      → ValidatedSofar A whole (record j { slots = j.slots ++ slot ∷ []; events = after }) (k + 1) after
+  slot_more l after slot cut parsed =
+      let same : (length j.events == length rest) ≡ true =
+      elim (cases_Bool (length j.events == length rest))
+      [ inl same ↦ same | inr other ↦ absurd (parsed.early (ap not other)) ] in
+      let none = no_events (eqb-true (length j.events) (length rest) same) in
+      let is = subst (λ (v : Format). fields_of l ≡ slot_fields v slot) (sym s.format) parsed.fields in
+      let fine = subst (λ (v : Format). IsFineSlot v slot) (sym s.format) parsed.fine in
+      record {
+        trace = with_slot s.trace slot;
+        so = slot_read l after slot s.so cut is fine none;
+        format = s.format;
+        cache = s.cache;
+        slots = ap (λ (ss : List SlotSpec). ss ++ slot ∷ []) s.slots;
+        lines = no_lines s.trace.events after none;
+        fit = s.fit;
+        numbered = s.numbered;
+      }
 
--- the same, or it isn't ended
-pub first_refused : (A : Type 0) (whole : List ℕ) (j : Validation) (k : ℕ) (rest : List ℕ) (fault : FaultKind)
-    → ValidatedSofar A whole j k rest
-    → length rest ≢ 0 → RefusesFirst j rest fault → fault ≢ kind.NoMemory → IsFault whole k fault
-first_refused A whole j k rest fault s some (inl cut) known =
-    subst (λ (f : FaultKind). IsFault whole k f) (sym cut.named) (is_cut_off A whole j k rest s cut.last some)
-first_refused A whole j k rest fault s some (inr next) known =
-    is_refused_now A whole j k rest next.line next.after (begun_before j rest) fault s next.cut
-    refl next.refused known
+  event_more : (longest longest_line : ℕ) (l after : List ℕ) (event : Event A) → rest ≡ l ++ 10 ∷ after
+      → SaysEvent j.format l event → bytes_len event.what ≤ longest → j.longest ≤ longest → 1 ≤ longest_line
+      → ValidatedSofar A whole (record j { longest = longest; longest_line = longest_line }) (k + 1) after
+  unfolding event_line
+  event_more longest longest_line l after event cut parsed fits longer numbered =
+      let es = s.trace.events in
+      record {
+        trace = with_event s.trace event;
+        so = event_read l after event s.so cut parsed.fields parsed.fine
+            (subst (λ (v : Format). IsWordOf v (word_for event.what)) (sym s.format) parsed.of_format);
+        format = s.format;
+        cache = s.cache;
+        slots = s.slots;
+        lines = taken j.events (map event_line es) (map event_line (es ++ event ∷ [])) rest l after s.lines cut
+            (map_push event_line es event
+            ∙ ap (λ (x : List ℕ). map event_line es
+            ++ x ∷ []) (sym (line-fields_of l (event_fields event) parsed.fields)));
+        fit = All-push (λ (e : Event A). bytes_len e.what ≤ longest) es event
+            (All-weaker (λ (e : Event A). bytes_len e.what ≤ j.longest)
+            (λ (e : Event A). bytes_len e.what ≤ longest) (λ e h. omega arith) es s.fit) fits;
+        numbered = numbered;
+      }
 
--- nothing is left
-pub validated_whole : (A : Type 0) (whole : List ℕ) (j : Validation) (k : ℕ) (rest : List ℕ)
-    → ValidatedSofar A whole j k rest → length rest ≡ 0 → IsValidated A whole j
-validated_whole A whole j k rest s none =
-    let t = s.trace in
-    let found = all_read whole t k rest s.so none in
-    record {
-      trace = t;
-      read = record {
-        found = found;
-        range = s.so.fits.range;
-        printable = s.so.fits.printable;
-        only = λ u ru pu e. one_trace u t (record { range = ru; printable = pu }) s.so.fits (sym e ∙ found);
-      };
-      format = s.format;
-      cache = s.cache;
-      slots = s.slots;
-      lines_of = record {
-        fine = λ i d lt. record {
-          fits = s.so.fits.range.events i d lt;
-          printable = s.so.fits.printable.events i d lt;
+  validated_more : (new : Validation) (l after : List ℕ) → rest ≡ l ++ 10 ∷ after
+      → ValidatesLine A (begun_before j rest) l after j new
+      → ValidatedSofar A whole new (k + 1) after
+  validated_more new l after cut (inl validates) =
+      subst (λ (n : Validation). ValidatedSofar A whole n (k + 1) after) (sym validates.is)
+      (slot_more l after validates.slot cut validates.parsed)
+  validated_more new l after cut (inr validates) =
+      subst (λ (n : Validation). ValidatedSofar A whole n (k + 1) after) (sym validates.is)
+      (event_more new.longest new.longest_line l after validates.event cut validates.parsed
+      validates.fits validates.longer (validates.numbered s.numbered))
+
+  pub first_more : (new : Validation) (after : List ℕ) → ValidatesFirst A rest after j new
+      → ValidatedSofar A whole new (k + 1) after
+  first_more new after h = validated_more new h.line after h.ended h.validated
+
+  -- ---- what is answered
+
+  -- the fault of a line after the second
+  pub fault_later : (fault : TraceFault) → fault.line ≡ k
+      → (fault.kind ≢ kind.NoMemory → IsFault whole k fault.kind) → IsTraceFault A whole fault
+  fault_later fault here named =
+      let count = s.so.count in
+      is_fault A whole fault (rw here named) (omega arith) (rw here (clean s.so))
+
+  -- the next line is refused, or it isn't ended
+  pub first_refused : (fault : FaultKind) → length rest ≢ 0 → RefusesFirst j rest fault → fault ≢ kind.NoMemory
+      → IsFault whole k fault
+  first_refused fault some (inl cut) known =
+      subst (λ (f : FaultKind). IsFault whole k f) (sym cut.named) (is_cut s.so cut.last (λ e. some (ap length e)))
+  first_refused fault some (inr next) known =
+      is_refused s.so (begun_before j rest) next.line next.after fault next.cut
+      (λ so. some_events
+      (λ e. absurd (true≢false (sym so ∙ ap not (eq-eqb (length j.events) (length rest) e)))))
+      (λ no'. no_events (eqb-true (length j.events) (length rest)
+      (not-false (length j.events == length rest) no')))
+      (subst (λ (v : Format). RefusesLine v (begun_before j rest) next.line fault) (sym s.format) next.refused) known
+
+  -- nothing is left
+  pub validated_whole : length rest ≡ 0 → IsValidated A whole j
+  validated_whole none =
+      let t = s.trace in
+      let found = all_read s.so none in
+      record {
+        trace = t;
+        read = record {
+          found = found;
+          range = s.so.fits.range;
+          printable = s.so.fits.printable;
+          only = λ u ru pu e. one_trace u t (record { range = ru; printable = pu }) s.so.fits (sym e ∙ found);
         };
-        spelled = s.lines ∙ ap (λ (xs : List ℕ). joined (map event_line t.events)
-            ++ xs) (nil_from_length rest none) ∙ append-nil (joined (map event_line t.events));
-      };
-      fit = s.fit;
-      numbered = s.numbered;
-    }
+        format = s.format;
+        cache = s.cache;
+        slots = s.slots;
+        lines_of = record {
+          fine = λ i d lt. record {
+            fits = s.so.fits.range.events i d lt;
+            printable = s.so.fits.printable.events i d lt;
+          };
+          spelled = s.lines ∙ ap (λ (xs : List ℕ). joined (map event_line t.events)
+              ++ xs) (nil_from_length rest none) ∙ append-nil (joined (map event_line t.events));
+        };
+        fit = s.fit;
+        numbered = s.numbered;
+      }
 
 -- there is no memory for the bytes of a line of a trace
 pub no_room : (A : Type 0) (whole : List ℕ) (j : Validation) (fault : TraceFault) → IsValidated A whole j

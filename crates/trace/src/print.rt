@@ -112,13 +112,8 @@ fn has_line<A: Allocator>(what: &EventKind<A>) -> bool
             value,
             ..
         } => is_access(*offset, *width) && is_within(*value, *width),
-        EventKind::MemRead { .. }
-        | EventKind::MemWrite { .. }
-        | EventKind::Input { .. }
-        | EventKind::Resize { .. }
-        | EventKind::Restore { .. }
-        | EventKind::Host(_) => true,
         EventKind::Device { what, .. } => done_has_line(what),
+        _ => true,
     }
 }
 

@@ -94,25 +94,15 @@ pub(crate) fn is_word_of(format: Format, word: Word) -> bool
     ensures { IsTrue result ↔ IsWordOf format word }
 {
     match word {
-        Word::Restore
-        | Word::Complete
-        | Word::Drop
-        | Word::Hold
-        | Word::Release
-        | Word::Plug
-        | Word::DeviceRead
-        | Word::DeviceWrite
-        | Word::Supply
-        | Word::Receive
-        | Word::TakeSent
-        | Word::DropSent
-        | Word::SetLink
-        | Word::DeviceResize
-        | Word::DeviceComplete
-        | Word::DeviceDrop
-        | Word::DeviceHold
-        | Word::DeviceRelease => format == Format::Extended,
-        _ => true,
+        Word::Cache
+        | Word::Slot
+        | Word::Read
+        | Word::Write
+        | Word::MemRead
+        | Word::MemWrite
+        | Word::Input
+        | Word::Resize => true,
+        _ => format == Format::Extended,
     }
 }
 

@@ -105,11 +105,9 @@ fn behind_of(kind: DeviceSpec) -> BehindKind
     ensures { result ≡ behind_of kind }
 {
     match kind {
-        DeviceSpec::Entropy | DeviceSpec::Network { .. } | DeviceSpec::Console { .. } => {
-            BehindKind::Nothing
-        }
         DeviceSpec::Block { .. } => BehindKind::HostedDisk,
         DeviceSpec::Image { .. } => BehindKind::ImageDisk,
+        _ => BehindKind::Nothing,
     }
 }
 

@@ -53,16 +53,12 @@ pub(crate) fn device_of<'a, A: Allocator>(
             ParsedEvent::device(slot as u8, device as u8, receive, bytes)
         }
         Word::TakeSent => {
-            let &[Number(slot), Number(device)] = values else {
-                unreachable!()
-            };
-            ParsedEvent::device(slot as u8, device as u8, DeviceEvent::TakeSent, &[])
+            let (slot, device) = device_alone(values);
+            ParsedEvent::device(slot, device, DeviceEvent::TakeSent, &[])
         }
         Word::DropSent => {
-            let &[Number(slot), Number(device)] = values else {
-                unreachable!()
-            };
-            ParsedEvent::device(slot as u8, device as u8, DeviceEvent::DropSent, &[])
+            let (slot, device) = device_alone(values);
+            ParsedEvent::device(slot, device, DeviceEvent::DropSent, &[])
         }
         Word::SetLink => {
             let &[Number(slot), Number(device), Link(up)] = values else {

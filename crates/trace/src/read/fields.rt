@@ -119,20 +119,8 @@ fn parsed_of<'a, A: Allocator>(
         Word::Drop => ParsedEvent::said(slot_alone(values), HostEvent::Drop),
         Word::Hold => ParsedEvent::said(slot_alone(values), HostEvent::Hold),
         Word::Release => ParsedEvent::said(slot_alone(values), HostEvent::Release),
-        Word::Plug
-        | Word::DeviceRead
-        | Word::DeviceWrite
-        | Word::Supply
-        | Word::Receive
-        | Word::TakeSent
-        | Word::DropSent
-        | Word::SetLink
-        | Word::DeviceResize
-        | Word::DeviceComplete
-        | Word::DeviceDrop
-        | Word::DeviceHold
-        | Word::DeviceRelease => device_of(none, word, values),
         Word::Cache | Word::Slot => unreachable!(),
+        _ => device_of(none, word, values),
     }
 }
 

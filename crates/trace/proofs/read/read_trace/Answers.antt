@@ -23,8 +23,7 @@ loop-rest-init g c =
 
 pub returns-in_default-clause-fault : goal.returns-in_default-clause-fault
 returns-in_default-clause-fault g c known =
-    is_cut c.args.text.now (content c.loop-rest.trace) c.loop-rest.line c.loop-rest.rest.now
-    c.loop-rest.invariant c.in_default.ensures.none
+    is_cut c.loop-rest.invariant c.in_default.ensures.none
     (λ e. eqb-false (length c.loop-rest.rest.now) 0 (sym c.loop-rest-test.ensures) (ap length e))
 
 pub returns-in_default-clause-none : goal.returns-in_default-clause-none
@@ -37,13 +36,11 @@ returns-in_default-clause-numbered g c = let n = c.loop-rest.invariant.count in 
 
 pub returns-in_default-clause-clean : goal.returns-in_default-clause-clean
 returns-in_default-clause-clean g c =
-    clean c.args.text.now (content c.loop-rest.trace) c.loop-rest.line c.loop-rest.rest.now
-    c.loop-rest.invariant
+    clean c.loop-rest.invariant
 
 pub returns-in-Err-clause-fault : goal.returns-in-Err-clause-fault
 returns-in-Err-clause-fault g c known =
-    is_refused c.args.text.now (content c.loop-rest.trace) c.loop-rest.line c.loop-rest.rest.now
-    c.loop-rest.invariant (has_begun (content c.loop-rest.trace)) c.in-Some.this.now c.in-Some.after.now
+    is_refused c.loop-rest.invariant (has_begun (content c.loop-rest.trace)) c.in-Some.this.now c.in-Some.after.now
     c.in-Err.kind c.in-Some.ensures.lines
     (ltb-true 0 (length c.loop-rest.trace.events.items))
     (λ e. let none = ltb-false 0 (length c.loop-rest.trace.events.items) e in
@@ -59,24 +56,20 @@ returns-in-Err-clause-numbered g c = let n = c.loop-rest.invariant.count in omeg
 
 pub returns-in-Err-clause-clean : goal.returns-in-Err-clause-clean
 returns-in-Err-clause-clean g c =
-    clean c.args.text.now (content c.loop-rest.trace) c.loop-rest.line c.loop-rest.rest.now
-    c.loop-rest.invariant
+    clean c.loop-rest.invariant
 
 pub overflow_add-line : goal.overflow_add-line
 overflow_add-line g c = let n =
-    numbered c.args.text.now (content c.loop-rest.trace) c.loop-rest.line c.loop-rest.rest.now
-    c.loop-rest.invariant in omega arith
+    numbered c.loop-rest.invariant in omega arith
 
 pub loop-rest-preserved : goal.loop-rest-preserved
 loop-rest-preserved g c =
-    entry_read c.args.text.now (content c.loop-rest.trace) (content c.add_line.new.trace) c.loop-rest.line
-    c.loop-rest.rest.now c.in-Some.this.now c.in-Some.after.now c.loop-rest.invariant
+    entry_read (content c.add_line.new.trace) c.in-Some.this.now c.in-Some.after.now c.loop-rest.invariant
     c.in-Some.ensures.ended c.in_default-add_line.ensures.ok
 
 pub returns-clause-found : goal.returns-clause-found
 returns-clause-found g c =
-    all_read c.args.text.now (content c.loop-rest.trace) c.loop-rest.line c.loop-rest.rest.now
-    c.loop-rest.invariant (eqb-true (length c.loop-rest.rest.now) 0 (sym c.loop-rest-test.ensures))
+    all_read c.loop-rest.invariant (eqb-true (length c.loop-rest.rest.now) 0 (sym c.loop-rest-test.ensures))
 
 pub returns-clause-only : goal.returns-clause-only
 returns-clause-only g c u range printable is =
