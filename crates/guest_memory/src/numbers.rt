@@ -65,6 +65,7 @@ impl<A: Allocator> GuestMemory<A> {
     }
 
     /// Writes a 16-bit number at `addr`, where both bytes lie in the memory.
+    #[inline(always)]
     pub fn write_u16(&mut self, addr: u64, v: u16)
         requires { Inside self.old addr 2 }
         ensures written { self.new ≡ put_num self.old addr 2 v }
@@ -74,6 +75,7 @@ impl<A: Allocator> GuestMemory<A> {
     }
 
     /// Writes a 32-bit number at `addr`, where all four bytes lie in the memory.
+    #[inline(always)]
     pub fn write_u32(&mut self, addr: u64, v: u32)
         requires { Inside self.old addr 4 }
         ensures written { self.new ≡ put_num self.old addr 4 v }
@@ -83,6 +85,7 @@ impl<A: Allocator> GuestMemory<A> {
     }
 
     /// Writes a 64-bit number at `addr`, where all eight bytes lie in the memory.
+    #[inline(always)]
     pub fn write_u64(&mut self, addr: u64, v: u64)
         requires { Inside self.old addr 8 }
         ensures written { self.new ≡ put_num self.old addr 8 v }
