@@ -1,14 +1,11 @@
 -- When each refusal of a call comes.
 use Rattle.std.proofs.Common.{◌≡◌, ◌⊎◌, ◌↔◌, inl, inr, ℕ, ◌<◌, ◌≤◌, Bool, true, false, List, length, get_or, Option, Some, None, refl, sym, ◌∙◌, ap, subst, arith}
-use Rattle.std.specs.Option.{option_map}
 use Rattle.std.specs.Prelude.{◌&&◌, ◌||◌, is_some, nat_lt, not, if◌then◌else◌, IsErrOf, IsSomeAnd, Result, Ok, Err}
 use Rattle.std.specs.List.{slice_get}
 use Rattle.std.specs.Option.{option_and_then}
 use Rattle.std.proofs.lemmas.Bool.Decides.{nat_tests}
 use Rattle.std.proofs.lemmas.Option.{slice_get_cases, slice_get_within, same_Some}
 use Rattle.guest_memory.specs.Memory.{Inside}
-use Rattle.board.specs.declared.event.DeviceEvent.{DeviceEvent}
-use Rattle.board.specs.declared.event.DeviceEvent.TheVariants.{Host as DiskTold}
 use Rattle.board.specs.declared.event.Event.{Event}
 use Rattle.board.specs.declared.event.EventKind.{EventKind}
 use Rattle.board.specs.declared.event.EventKind.TheVariants.{Device, Host, Restore}
@@ -22,14 +19,8 @@ use Rattle.board.specs.declared.reply.Reply.TheVariants as reply
 use Rattle.board.specs.declared.reply.Record.{Record}
 use Rattle.block_device.specs.Flights.{InFlight}
 use Rattle.block_device.specs.Tags.{is_any}
-use Rattle.hosted_disk.specs.Disk.{HostedDisk}
 use Rattle.hosted_disk.specs.Told.{has_effect}
-use Rattle.device_list.specs.List.{disk_at}
 use Rattle.board.specs.Backing.{HostDisk, tags_in}
-use Rattle.board.specs.Devices.{reply_at, told_reply, waits_for_disk}
-use Rattle.board.specs.declared.slot_disk.SlotDisk.{SlotDisk}
-use Rattle.board.specs.declared.slot_disk.SlotDisk.TheVariants.{Further, Own}
-use Rattle.board.specs.HostedDisks.{saying}
 use Rattle.board.specs.Hosting.{HostGives, HostOrGives, OwnGives, ToldGives, has_part, must_wait, own_disk, told_in, waits_now}
 use Rattle.board.specs.Image.{Health}
 use Rattle.board.specs.Outcome.{Outcome, replies}
@@ -48,15 +39,14 @@ use Rattle.session.specs.declared.refusal.Refusal.TheVariants as refusal
 use Rattle.session.specs.declared.response.Response.{Response}
 use Rattle.session.specs.declared.response.Response.TheVariants.{Answered, More, Busy, Idle}
 use Rattle.session.specs.declared.handed.Handed.{Handed}
-use Rattle.session.specs.Answering.{Means, RefusalMeans, Suits, SuitsCall, handed_by, handed_response, served_response}
-use Rattle.session.specs.Devices.{TakesNothing}
-use Rattle.session.specs.Operations.{HasNoDisk, HasNothing, HoldsUp, IsSpare}
+use Rattle.session.specs.Answering.{Means, RefusalMeans, handed_by, handed_response, served_response}
+use Rattle.session.specs.Operations.{HoldsUp, IsSpare}
 use Rattle.session.specs.Pacing.{Handle, response_to}
 use Rattle.session.specs.Pausing.{ComesTo, IsBegun, IsEventCall, IsToldCall, IsWhole}
 use Rattle.session.specs.Session.{AnswersInPlace, IsIdle, IsOutside, IsStep, SessionState, world_of}
 use Rattle.session.proofs.Access.{found_at}
 use Rattle.session.proofs.Calls.{call_of_step, called_busy}
-use Rattle.session.proofs.Devices.{bad_exact, idle_exact, unanswered_asks, waiting_asks, waiting_gives}
+use Rattle.session.proofs.Devices.{waiting_asks, waiting_gives}
 use Rattle.session.proofs.Parts.{asks_nothing}
 use Rattle.session.proofs.Steps.{lacks_puts}
 use Rattle.session.proofs.Suiting.{asks_none, never_busy, never_idle, never_paused}
@@ -222,7 +212,7 @@ module _ {A : Type 0} (state : SlotState) (outcome : Outcome A) where
   over_image Hold is = inl is
   over_image Release is = inl is
 
-  rests_by : (host : Option HostDisk) (said : HostEvent) (old new : Health) → state.host ≡ host
+  pub rests_by : (host : Option HostDisk) (said : HostEvent) (old new : Health) → state.host ≡ host
       → MayGiveBy host state (Host said) old new outcome → Rests ↔ IsSpare said state.host state.on_hold
   rests_by None said old new is (inl served) = idles served.alike.alike (over_image said is)
   rests_by None said old new is (inr never) = absurd never
@@ -240,7 +230,7 @@ refusal_of (Answered reply.Idle) = Some refusal.Idle
 refusal_of Busy = Some refusal.Busy
 refusal_of told = None
 
-abbrev refused : {T : Type 0} → Result T Refusal → Option Refusal
+abbrev pub refused : {T : Type 0} → Result T Refusal → Option Refusal
 refused (Ok value) = None
 refused (Err why) = Some why
 
@@ -250,7 +240,7 @@ meant refusal.Busy told (inl is) = rw is refl
 meant refusal.Busy told (inr is) = rw is refl
 meant why told is = rw is refl
 
-means_refused : {A T : Type 0} (wanted : T → Response A) → ((value : T) → refusal_of (wanted value) ≡ None)
+pub means_refused : {A T : Type 0} (wanted : T → Response A) → ((value : T) → refusal_of (wanted value) ≡ None)
     → (r : Result T Refusal) (told : Response A) → Means wanted r told → refusal_of told ≡ refused r
 means_refused wanted pure (Ok value) told is = rw is (pure value)
 means_refused wanted pure (Err why) told is = meant why told is
@@ -260,7 +250,7 @@ is_err (Ok value) why is = absurd (cc (is))
 is_err (Err w) why is = ap (λ x. Err x) (same_Some w why is)
 
 -- an answer is this refusal where the response says it
-refused_when : {A T : Type 0} (wanted : T → Response A) (told : Response A) (r : Result T Refusal)
+pub refused_when : {A T : Type 0} (wanted : T → Response A) (told : Response A) (r : Result T Refusal)
     (why : Refusal) {P : Type 0} → ((value : T) → refusal_of (wanted value) ≡ None) → Means wanted r told
     → (refusal_of told ≡ Some why) ↔ P → IsErrOf r why ↔ P
 refused_when {A} {T} wanted told r why {P} pure means says =
@@ -319,14 +309,14 @@ says_no_room : {A : Type 0} (answer : Reply A) → refusal_of (Answered answer) 
 says_no_room {A} answer is =
     let told : Answered answer ≡ Answered reply.NoMemory = telling answer refusal.NoRoom is in cc (told)
 
-says_idle : {A : Type 0} (answer : Reply A)
+pub says_idle : {A : Type 0} (answer : Reply A)
     → (refusal_of (Answered answer) ≡ Some refusal.Idle) ↔ (answer ≡ reply.Idle)
 says_idle {A} answer = (
   λ is. let told : Answered answer ≡ Answered reply.Idle = telling answer refusal.Idle is in cc (told),
   λ is. rw is refl,
 )
 
-says_bad_device : {A : Type 0} (answer : Reply A)
+pub says_bad_device : {A : Type 0} (answer : Reply A)
     → (refusal_of (Answered answer) ≡ Some refusal.BadDevice) ↔ (answer ≡ reply.BadDevice)
 says_bad_device {A} answer = (
   λ is. let told : Answered answer ≡ Answered reply.BadDevice = telling answer refusal.BadDevice is in cc (told),
@@ -344,12 +334,12 @@ paused_not s slot pause is idle =
     let now : ◌≡◌ {A = Option Pause} (Some pause) None = rw is at idle in cc (now)
 
 -- what a slot that is there gives for an event that is answered
-record Gave {A : Type 0} (found : BoardSlot) (old : SessionState) (what : EventKind A) (answer : Reply A)
+pub record Gave {A : Type 0} (found : BoardSlot) (old : SessionState) (what : EventKind A) (answer : Reply A)
     : Type 0 where
-  after : Health
-  outcome : Outcome A
-  given : MayGive (state_of old.image found) what (world_of old).health after outcome
-  said : outcome.reply ≡ answer
+  pub after : Health
+  pub outcome : Outcome A
+  pub given : MayGive (state_of old.image found) what (world_of old).health after outcome
+  pub said : outcome.reply ≡ answer
 
 gave : {A : Type 0} (old new : SessionState) (event : Event A) (answer : Reply A) (found : BoardSlot)
     → slice_get old.slots event.slot ≡ Some found → IsStep old event answer new
@@ -645,171 +635,8 @@ module _ {A : Type 0} (old new : SessionState) (slot : ℕ) (what : EventKind A)
     said_exact Busy (Some None) is comes whole = absurd (never_busy comes.turn.turn (sym comes.turn.told))
     said_exact Idle (Some None) is comes whole = absurd (never_idle comes.turn.turn (sym comes.turn.told))
 
-    said_call : (response : Response A) → IsEventCall old slot what response new → IsSaid response
+    pub said_call : (response : Response A) → IsEventCall old slot what response new → IsSaid response
     said_call response call = said_exact response (slice_get old.paused slot) refl call.turn call.whole
-
--- ---- what the host says
-
-host_idle : {A : Type 0} (old new : SessionState) (slot : ℕ) (said : HostEvent)
-    → length old.paused ≡ length old.slots → (response : Response A) → IsEventCall old slot (Host said) response new
-    → (refusal_of response ≡ Some refusal.Idle) ↔ (IsIdle slot old × HasNothing slot Own said old.slots)
-host_idle {A} old new slot said many =
-    said_call old new slot (Host said) many refusal.Idle (λ one. IsSpare said one.host one.on_hold) (λ one spare. refl)
-    (λ is. cc (is)) (λ is. cc (is))
-    (λ answer one came.
-    let says = says_idle answer in
-    let rests = rests_by (state_of old.image one) came.outcome one.host said _ came.after refl came.given in
-    (λ is. rests.0 (came.said ∙ says.0 is), λ rest. says.1 (sym came.said ∙ rests.1 rest)))
-
--- what each refusal says that is answered to what the host says
-pub record HostRefuses {T : Type 0} (old : SessionState) (slot : ℕ) (said : HostEvent) (r : Result T Refusal)
-    : Type 0 where
-  pub bad_slot : IsErrOf r refusal.BadSlot ↔ (length old.slots ≤ slot)
-  pub busy : IsErrOf r refusal.Busy ↔ (¬ IsIdle slot old)
-  pub idle : IsErrOf r refusal.Idle ↔ (IsIdle slot old × HasNothing slot Own said old.slots)
-
-pub host_refuses : {A : Type 0} (old new : SessionState) (slot : ℕ) (said : HostEvent) (response : Response A)
-    (r : Result Progress Refusal) → Means served_response r response → length old.paused ≡ length old.slots
-    → IsEventCall old slot (Host said) response new → HostRefuses old slot said r
-host_refuses {A} old new slot said response r means many call =
-    let says = refuses old new slot (Host said) response served_response r (served_pure A) means many call in
-    record {
-      bad_slot = says.bad_slot;
-      busy = only_paused {A = A} old slot (Host said) refl (λ state. refl) says.busy;
-      idle = refused_when served_response response r refusal.Idle (served_pure A) means
-          (host_idle old new slot said many response call);
-    }
-
--- ---- what is done to a further device
-
-device_bad : {A : Type 0} (old new : SessionState) (slot n : ℕ) (what : DeviceEvent A)
-    → length old.paused ≡ length old.slots → (response : Response A)
-    → IsEventCall old slot (Device n what) response new
-    → (refusal_of response ≡ Some refusal.BadDevice) ↔ (IsIdle slot old × TakesNothing slot n what old)
-device_bad {A} old new slot n what many =
-    said_call old new slot (Device n what) many refusal.BadDevice
-    (λ one. reply_at n what (state_of old.image one) ≡ None)
-    (λ one none. unanswered_asks n what (state_of old.image one) none) (λ is. cc (is)) (λ is. cc (is))
-    (λ answer one came.
-    let says = says_bad_device answer in
-    let exact = bad_exact n what (state_of old.image one) _ came.after came.outcome came.given in
-    (λ is. exact.0 (came.said ∙ says.0 is), λ bad. says.1 (sym came.said ∙ exact.1 bad)))
-
--- and that there is nothing to do for what the host says of a disk
-pub device_idle : {A : Type 0} (old new : SessionState) (slot n : ℕ) (said : HostEvent) (response : Response A)
-    (r : Result Progress Refusal) → Means served_response r response → length old.paused ≡ length old.slots
-    → IsEventCall old slot (Device n (DiskTold said)) response new
-    → IsErrOf r refusal.Idle ↔ (IsIdle slot old × HasNothing slot (Further n) said old.slots)
-device_idle {A} old new slot n said response r means many call =
-    refused_when served_response response r refusal.Idle (served_pure A) means
-    (said_call old new slot (Device n (DiskTold said)) many refusal.Idle
-    (λ one. IsSomeAnd (disk_at n one.devices) (λ disk. has_effect said disk ≡ false)) (λ one none. refl)
-    (λ is. cc (is)) (λ is. cc (is))
-    (λ answer one came.
-    let says = says_idle answer in
-    let exact = idle_exact n said (state_of old.image one) _ came.after came.outcome came.given in
-    (λ is. exact.0 (came.said ∙ says.0 is), λ rest. says.1 (sym came.said ∙ exact.1 rest))) response call)
-
--- what each refusal says that is answered to what is done to a further device
-pub record DeviceRefuses {A T : Type 0} (old : SessionState) (slot n : ℕ) (what : DeviceEvent A)
-    (r : Result T Refusal) : Type 0 where
-  pub bad_slot : IsErrOf r refusal.BadSlot ↔ (length old.slots ≤ slot)
-  pub waits : IsErrOf r refusal.Busy ↔ ((¬ IsIdle slot old) ⊎ HoldsUp slot (Device n what) old)
-  -- of what waits for nothing
-  pub busy :
-      ((state : SlotState) → waits_for_disk what n state.devices ≡ false) →
-      IsErrOf r refusal.Busy ↔ (¬ IsIdle slot old)
-  pub bad_device : IsErrOf r refusal.BadDevice ↔ (IsIdle slot old × TakesNothing slot n what old)
-
-pub device_refuses : {A T : Type 0} (old new : SessionState) (slot n : ℕ) (what : DeviceEvent A)
-    (response : Response A) (wanted : T → Response A) (r : Result T Refusal)
-    → ((value : T) → refusal_of (wanted value) ≡ None) → Means wanted r response
-    → length old.paused ≡ length old.slots → IsEventCall old slot (Device n what) response new
-    → DeviceRefuses old slot n what r
-device_refuses {A} {T} old new slot n what response wanted r pure means many call =
-    let says = refuses old new slot (Device n what) response wanted r pure means many call in
-    record {
-      bad_slot = says.bad_slot;
-      waits = says.busy;
-      busy = λ free. only_paused {A = A} old slot (Device n what) refl free says.busy;
-      bad_device = refused_when wanted response r refusal.BadDevice pure means
-          (device_bad old new slot n what many response call);
-    }
-
--- ---- what the host says of a disk
-
--- a slot's own is always there
-own_there : {A : Type 0} (said : HostEvent) (response : Response A) (r : Result Progress Refusal)
-    → Means served_response r response → SuitsCall (Host said) response → IsErrOf r refusal.BadDevice → ⊥
-own_there {A} said response r means suits is =
-    by_response response
-    (means_refused served_response (served_pure A) r response means ∙ ap (λ (x : Result Progress Refusal). refused x) is)
-    suits
-  where
-    by_response : (response : Response A) → refusal_of response ≡ Some refusal.BadDevice
-        → SuitsCall (Host said) response → ⊥
-    by_response (Answered answer) told suits =
-        subst (λ (a : Reply A). Suits (Host said) a) ((says_bad_device answer).0 told) suits
-    by_response More told suits = absurd (cc told)
-    by_response Busy told suits = absurd (cc told)
-    by_response Idle told suits = absurd (cc told)
-
--- and of a further one it is answered that there is none where there is none
-no_reply : {A : Type 0} (said : HostEvent) (found : Option HostedDisk)
-    → (option_map (told_reply {A = A}) (option_map (has_effect said) found) ≡ None) ↔ (found ≡ None)
-no_reply said None = (λ is. refl, λ is. refl)
-no_reply said (Some disk) = (λ is. absurd (cc is), λ is. absurd (cc is))
-
-missing_by : (A : Type 0) (found : Option BoardSlot) (n : ℕ) (said : HostEvent) (image : List ℕ)
-    → IsSomeAnd found (λ one. reply_at {A = A} n (DiskTold said) (state_of image one) ≡ None)
-    ↔ IsSomeAnd found (λ one. disk_at n one.devices ≡ None)
-missing_by A None n said image = (λ never. never, λ never. never)
-missing_by A (Some one) n said image = no_reply {A = A} said (disk_at n one.devices)
-
--- what each refusal says that is answered to what the host says of a disk
-pub record DiskRefuses (old : SessionState) (slot : ℕ) (disk : SlotDisk) (said : HostEvent) (r : Result Progress Refusal)
-    : Type 0 where
-  pub bad_slot : IsErrOf r refusal.BadSlot ↔ (length old.slots ≤ slot)
-  pub busy : IsErrOf r refusal.Busy ↔ (¬ IsIdle slot old)
-  pub bad_device : IsErrOf r refusal.BadDevice ↔ (IsIdle slot old × HasNoDisk slot disk old.slots)
-  pub idle : IsErrOf r refusal.Idle ↔ (IsIdle slot old × HasNothing slot disk said old.slots)
-
-pub disk_refuses : {A : Type 0} (old new : SessionState) (slot : ℕ) (disk : SlotDisk) (said : HostEvent)
-    (response : Response A) (r : Result Progress Refusal) → Means served_response r response
-    → SuitsCall (saying disk said) response → length old.paused ≡ length old.slots
-    → IsEventCall old slot (saying disk said) response new → DiskRefuses old slot disk said r
-disk_refuses {A} old new slot Own said response r means suits many call =
-    let says = host_refuses old new slot said response r means many call in
-    record {
-      bad_slot = says.bad_slot;
-      busy = says.busy;
-      bad_device = (λ is. absurd (own_there said response r means suits is), λ never. absurd never.1);
-      idle = says.idle;
-    }
-disk_refuses {A} old new slot (Further n) said response r means suits many call =
-    let says = device_refuses {A = A} old new slot n (DiskTold said) response served_response r (served_pure A) means
-    many call in
-    let missing = missing_by A (slice_get old.slots slot) n said old.image in
-    record {
-      bad_slot = says.bad_slot;
-      busy = says.busy (λ state. refl);
-      bad_device = (
-        λ is. let bad = says.bad_device.0 is in (bad.0, missing.0 bad.1),
-        λ none. says.bad_device.1 (none.0, missing.1 none.1),
-      );
-      idle = device_idle old new slot n said response r means many call;
-    }
-
--- and what is told of the call
-pub device_told : {A T : Type 0} (old new : SessionState) (slot n : ℕ) (what : DeviceEvent A)
-    (response : Response A) (wanted : T → Response A) (r : Result T Refusal)
-    → ((value : T) → refusal_of (wanted value) ≡ None) → Means wanted r response
-    → length old.paused ≡ length old.slots → IsEventCall old slot (Device n what) response new
-    → IsToldCall old slot (Device n what) (Means wanted r) new × DeviceRefuses old slot n what r
-device_told old new slot n what response wanted r pure means many call = (
-  record { response = response; call = call; told = means },
-  device_refuses old new slot n what response wanted r pure means many call,
-)
 
 -- ---- a range that doesn't lie in the memory
 

@@ -23,6 +23,7 @@ pub mod Loans
 pub mod Parts
 pub mod Paused
 pub mod Exact
+pub mod ExactDevices
 pub mod Asking
 pub mod Kept
 pub mod Refusals

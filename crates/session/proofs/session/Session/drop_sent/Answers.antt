@@ -4,7 +4,8 @@ use Rattle.board.specs.declared.event.DeviceEvent.TheVariants.{DropSent}
 use Rattle.board.specs.declared.event.EventKind.TheVariants.{Device}
 use Rattle.session.specs.Answering.{handed_response}
 use Rattle.session.proofs.Devices.{drop_counts, drops_refuse, drops_suit}
-use Rattle.session.proofs.Exact.{DeviceRefuses, device_refuses, handed_pure}
+use Rattle.session.proofs.Exact.{handed_pure}
+use Rattle.session.proofs.ExactDevices.{DeviceRefuses, device_refuses}
 use Rattle.session.proofs.Paused.{drop_some, pauses}
 use Rattle.session.proofs.session.Session.drop_sent.Goals as goal
 

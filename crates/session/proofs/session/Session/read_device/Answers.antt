@@ -3,7 +3,7 @@ use Rattle.std.proofs.Common.{refl}
 use Rattle.board.specs.declared.event.DeviceEvent.TheVariants.{Read}
 use Rattle.session.specs.Answering.{value_response}
 use Rattle.session.proofs.Devices.{reads_suit}
-use Rattle.session.proofs.Exact.{device_told}
+use Rattle.session.proofs.ExactDevices.{device_told}
 use Rattle.session.proofs.session.Session.read_device.Goals as goal
 
 pub gave-requires : goal.gave-requires

@@ -3,7 +3,7 @@ use Rattle.std.proofs.Common.{refl}
 use Rattle.board.specs.declared.event.DeviceEvent.TheVariants.{Resize}
 use Rattle.session.specs.Answering.{done_response}
 use Rattle.session.proofs.Devices.{resizes_suit}
-use Rattle.session.proofs.Exact.{device_told}
+use Rattle.session.proofs.ExactDevices.{device_told}
 use Rattle.session.proofs.session.Session.resize_device.Goals as goal
 
 pub done-requires : goal.done-requires

@@ -3,7 +3,7 @@ use Rattle.std.proofs.Common.{refl}
 use Rattle.board.specs.declared.event.DeviceEvent.TheVariants.{SetLink}
 use Rattle.session.specs.Answering.{done_response}
 use Rattle.session.proofs.Devices.{links_suit}
-use Rattle.session.proofs.Exact.{device_told}
+use Rattle.session.proofs.ExactDevices.{device_told}
 use Rattle.session.proofs.session.Session.set_link.Goals as goal
 
 pub done-requires : goal.done-requires

@@ -4,7 +4,8 @@ use Rattle.board.specs.declared.event.DeviceEvent.TheVariants.{Supply}
 use Rattle.board.specs.declared.event.EventKind.TheVariants.{Device}
 use Rattle.session.specs.Answering.{handed_response}
 use Rattle.session.proofs.Devices.{supplies_suit}
-use Rattle.session.proofs.Exact.{DeviceRefuses, device_refuses, handed_pure}
+use Rattle.session.proofs.Exact.{handed_pure}
+use Rattle.session.proofs.ExactDevices.{DeviceRefuses, device_refuses}
 use Rattle.session.proofs.Paused.{pauses, supply_takes}
 use Rattle.session.proofs.session.Session.supply.Goals as goal
 

@@ -2,7 +2,7 @@
 use Rattle.session.specs.Operations.{AskedBy, in_flight_at}
 use Rattle.session.proofs.Asking.{asks_where}
 use Rattle.session.proofs.Devices.{at_once, never_more, says_suit}
-use Rattle.session.proofs.Exact.{DiskRefuses, disk_refuses}
+use Rattle.session.proofs.ExactDevices.{DiskRefuses, disk_refuses}
 use Rattle.session.proofs.session.Session.tell.Goals as goal
 
 pub served-requires : goal.served-requires

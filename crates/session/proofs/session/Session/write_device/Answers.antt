@@ -6,7 +6,8 @@ use Rattle.session.specs.Answering.{served_response}
 use Rattle.session.specs.Operations.{HasAsked, in_flight_at}
 use Rattle.session.proofs.Asking.{asked_where, asks_where}
 use Rattle.session.proofs.Devices.{writes_suit}
-use Rattle.session.proofs.Exact.{DeviceRefuses, device_refuses, served_pure}
+use Rattle.session.proofs.Exact.{served_pure}
+use Rattle.session.proofs.ExactDevices.{DeviceRefuses, device_refuses}
 use Rattle.session.proofs.Paused.{pauses, write_asks}
 use Rattle.session.proofs.session.Session.write_device.Goals as goal
 
