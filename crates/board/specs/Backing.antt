@@ -53,8 +53,8 @@ own_device own = record {
 }
 
 -- and that of the image's sectors
-abbrev pub image_device : OwnDisk → BlockDevice
-image_device own = record { extent = own.extent; read_only = own.read_only; identity = own.identity }
+abbrev pub device_of_image : OwnDisk → BlockDevice
+device_of_image own = record { extent = own.extent; read_only = own.read_only; identity = own.identity }
 
 -- the disk as one that the host serves
 abbrev pub as_hosted : OwnDisk → HostedDisk

@@ -42,7 +42,7 @@ impl Counters {
         self.refusals = self.refusals.wrapping_add(1);
     }
 
-    /// Counts what the host says that an operation failed.
+    /// Counts a completion by which the host says that an operation failed.
     pub(crate) fn told(&mut self, said: HostEvent) {
         if matches!(
             said,

@@ -7,7 +7,7 @@ ghost use Rattle.guest_memory.specs.Memory.{SameRange};
 ghost use Rattle.mmio_window.specs.Soundness.{IsSound};
 ghost use Rattle.hosted_disk.specs.Disk.{LooksAtQueue};
 ghost use Rattle.hosted_disk.specs.Told.{DoesAsTold, has_effect};
-ghost use Rattle.board.specs.Backing.{DoesHosted, HoldsOwn, as_hosted, image_device, own_device};
+ghost use Rattle.board.specs.Backing.{DoesHosted, HoldsOwn, as_hosted, device_of_image, own_device};
 ghost use Rattle.board.specs.Fault.{HasRoom};
 ghost use Rattle.board.specs.Slot.{opened_disk};
 
@@ -73,7 +73,7 @@ impl<A: Allocator> OwnDisk<A> {
     /// The block device of the disk's sectors of the image: it has none where the host serves the disk.
     #[inline(always)]
     pub(crate) fn of_image(&self) -> &BlockDevice
-        ensures { result.now ≡ image_device self.now }
+        ensures { result.now ≡ device_of_image self.now }
     {
         &self.device
     }
