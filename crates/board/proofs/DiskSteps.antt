@@ -12,7 +12,6 @@ use Rattle.mmio_window.specs.Window.{WindowState}
 use Rattle.mmio_window.specs.Writing.{action_of}
 use Rattle.block_device.specs.declared.device.BlockDevice.{BlockDevice}
 use Rattle.block_device.specs.declared.operation.HostEvent.{HostEvent}
-use Rattle.block_device.specs.declared.operation.HostEvent.TheVariants.{Complete, Drop, Hold, Release}
 use Rattle.block_device.specs.Flights.{HostedQueue, InFlight}
 use Rattle.hosted_disk.specs.Disk.{HostedDisk, LooksUnless, ServesDisk, queue_of}
 use Rattle.hosted_disk.specs.Told.{QueueTold, held_by}
@@ -111,10 +110,10 @@ own_steps what old before after outcome h =
 
 -- ---- what stands behind the window of a further device
 
-abbrev flights_in : ModelState → List (Option InFlight)
+abbrev pub flights_in : ModelState → List (Option InFlight)
 flights_in model = option_map_or (λ (disk : HostedDisk). disk.tags) (disk_of model) []
 
-abbrev holds_in : ModelState → Bool
+abbrev pub holds_in : ModelState → Bool
 holds_in model = option_map_or (λ (disk : HostedDisk). disk.on_hold) (disk_of model) false
 
 unit_flights : (window : WindowState) (model : ModelState)
@@ -143,7 +142,7 @@ holds_at n state d there =
     ∙ unit_holds d.window d.model
 
 -- It stays, its queue is looked at, or the host says this of it, as may be.
-data ModelSteps (May : HostEvent → Type 0) (one other : ModelState) : Type 0 where
+pub data ModelSteps (May : HostEvent → Type 0) (one other : ModelState) : Type 0 where
   Same : flights_in other ≡ flights_in one → holds_in other ≡ holds_in one → ModelSteps May one other
   Looked :
       (device : BlockDevice) (q q' : HostedQueue) → LooksUnless (holds_in one) device q q'
@@ -155,15 +154,15 @@ data ModelSteps (May : HostEvent → Type 0) (one other : ModelState) : Type 0 w
       → holds_in other ≡ held_by said (holds_in one) → ModelSteps May one other
 
 module _ (May : HostEvent → Type 0) where
-  same_model : (one other : ModelState) → other ≡ one → ModelSteps May one other
+  pub same_model : (one other : ModelState) → other ≡ one → ModelSteps May one other
   same_model one other is = Same (ap flights_in is) (ap holds_in is)
 
   -- of another type than a disk nothing is in flight
-  no_disk : (one other : ModelState) → flights_in one ≡ [] → holds_in one ≡ false → flights_in other ≡ []
+  pub no_disk : (one other : ModelState) → flights_in one ≡ [] → holds_in one ≡ false → flights_in other ≡ []
       → holds_in other ≡ false → ModelSteps May one other
   no_disk one other tags holds tags' holds' = Same (tags' ∙ sym tags) (holds' ∙ sym holds)
 
-  disk_serves : (disk : HostedDisk) (q : ℕ) (m m' : Memory) (w w' : WindowState) (after : HostedDisk)
+  pub disk_serves : (disk : HostedDisk) (q : ℕ) (m m' : Memory) (w w' : WindowState) (after : HostedDisk)
       → ServesDisk disk q m m' w w' after → (other : ModelState) → other ≡ Block after
       → ModelSteps May (Block disk) other
   disk_serves disk zero m m' w w' after h other is =
@@ -196,11 +195,11 @@ module _ (May : HostEvent → Type 0) where
       (on_hold ∙ ap (held_by said) holds)
 
 -- what changes the other types leaves a disk
-abbrev LeavesDisks : (ModelState → ModelState) → Type 0
+abbrev pub LeavesDisks : (ModelState → ModelState) → Type 0
 LeavesDisks change = (model : ModelState)
     → (flights_in (change model) ≡ flights_in model) × (holds_in (change model) ≡ holds_in model)
 
-cards_leave : (change : Card → Card) → LeavesDisks (with_card change)
+pub cards_leave : (change : Card → Card) → LeavesDisks (with_card change)
 cards_leave change (Network card) = (refl, refl)
 cards_leave change _ = (refl, refl)
 
@@ -208,12 +207,12 @@ terminals_leave : (change : Terminal → Terminal) → LeavesDisks (with_termina
 terminals_leave change (Console terminal) = (refl, refl)
 terminals_leave change _ = (refl, refl)
 
-sent_leaves : LeavesDisks without_sent
+pub sent_leaves : LeavesDisks without_sent
 sent_leaves (Network card) = (refl, refl)
 sent_leaves (Console terminal) = (refl, refl)
 sent_leaves _ = (refl, refl)
 
-supplied_leaves : (bytes : List ℕ) → LeavesDisks (λ model. supplied_model model bytes)
+pub supplied_leaves : (bytes : List ℕ) → LeavesDisks (λ model. supplied_model model bytes)
 supplied_leaves bytes (Entropy pool) = (refl, refl)
 supplied_leaves bytes (Console terminal) = (refl, refl)
 supplied_leaves bytes _ = (refl, refl)
@@ -225,17 +224,17 @@ configured_leaves offset value _ = (refl, refl)
 -- ---- a further device
 
 -- what there is of device n behind what was done to device k, if device n was this
-record Left {A : Type 0} (k : ℕ) (what : DeviceEvent A) (n : ℕ) (d : DeviceState) (new : List DeviceState)
+pub record Left {A : Type 0} (k : ℕ) (what : DeviceEvent A) (n : ℕ) (d : DeviceState) (new : List DeviceState)
     : Type 0 where
-  after : DeviceState
-  there : slice_get new n ≡ Some after
-  steps : ModelSteps (λ said. (k ≡ n) × (said_there what ≡ Some said)) d.model after.model
+  pub after : DeviceState
+  pub there : slice_get new n ≡ Some after
+  pub steps : ModelSteps (λ said. (k ≡ n) × (said_there what ≡ Some said)) d.model after.model
 
 module _ {A : Type 0} (k : ℕ) (what : DeviceEvent A) (n : ℕ) (d : DeviceState) where
-  abbrev May : HostEvent → Type 0
+  abbrev pub May : HostEvent → Type 0
   May said = (k ≡ n) × (said_there what ≡ Some said)
 
-  unchanged : (old new : List DeviceState) → slice_get old n ≡ Some d → new ≡ old → Left k what n d new
+  pub unchanged : (old new : List DeviceState) → slice_get old n ≡ Some d → new ≡ old → Left k what n d new
   unchanged old new there is = record {
     after = d;
     there = ap (λ (devices : List DeviceState). slice_get devices n) is ∙ there;
@@ -243,7 +242,7 @@ module _ {A : Type 0} (k : ℕ) (what : DeviceEvent A) (n : ℕ) (d : DeviceStat
   }
 
   -- device k became this
-  at_left : (old new : List DeviceState) (before after : DeviceState) → slice_get old n ≡ Some d
+  pub at_left : (old new : List DeviceState) (before after : DeviceState) → slice_get old n ≡ Some d
       → slice_get old k ≡ Some before → new ≡ slice_set old k after
       → (k ≡ n → ModelSteps May before.model after.model) → Left k what n d new
   at_left old new before after there was is steps =
@@ -281,7 +280,7 @@ module _ {A : Type 0} (k : ℕ) (what : DeviceEvent A) (n : ℕ) (d : DeviceStat
   if_left true Changes m m' old new there at steps = done_left Changes m m' old new there at steps
   if_left false Changes m m' old new there set steps = unchanged old new there set.devices
 
-  changed_left : (change : DeviceState → DeviceState) (old new : List DeviceState) → slice_get old n ≡ Some d
+  pub changed_left : (change : DeviceState → DeviceState) (old new : List DeviceState) → slice_get old n ≡ Some d
       → new ≡ changed_at change k old → ((e : DeviceState) → ModelSteps May e.model (change e).model)
       → Left k what n d new
   changed_left change old new there is steps = by_found (slice_get old k) refl is
@@ -305,7 +304,7 @@ module _ {A : Type 0} (k : ℕ) (what : DeviceEvent A) (n : ℕ) (d : DeviceStat
       in_front (e ∷ devices) (suc i) there = in_front devices i there
 
 -- what its driver writes changes it so, and then a queue that is notified is served
-taking_leaves : (action : Action) → LeavesDisks (taking action)
+pub taking_leaves : (action : Action) → LeavesDisks (taking action)
 taking_leaves (ConfigWrite offset width value) model = configured_leaves offset value model
 taking_leaves _ model = (refl, refl)
 
@@ -380,7 +379,7 @@ said_here k n what said same told =
       | inr other ↦ absurd (other.1 same)
     ]
 
-model_steps : {A : Type 0} (k n : ℕ) (what : DeviceEvent A) (old new : SlotState) (d : DeviceState)
+pub model_steps : {A : Type 0} (k n : ℕ) (what : DeviceEvent A) (old new : SlotState) (d : DeviceState)
     → slice_get old.devices n ≡ Some d → Left k what n d new.devices
     → StepsTo (Further n) (event.Device k what) old new
 model_steps {A} k n what old new d there left =
@@ -409,7 +408,7 @@ model_steps {A} k n what old new d there left =
         (subst (λ (b : Bool). QueueTold said device b q q') (sym holds) told) (from ∙ sym tags) (tags' ∙ to)
         (holds' ∙ (on_hold ∙ ap (held_by said) (sym holds)))
 
-further_stays : {A : Type 0} (n : ℕ) (what : EventKind A) (old new : SlotState) → new.devices ≡ old.devices
+pub further_stays : {A : Type 0} (n : ℕ) (what : EventKind A) (old new : SlotState) → new.devices ≡ old.devices
     → StepsTo (Further n) what old new
 further_stays n what old new is =
     let found : Option DeviceState → Option DiskUnit = option_and_then unit_of in
@@ -417,7 +416,7 @@ further_stays n what old new is =
     (ap (λ (l : List DeviceState). option_map_or (λ (u : DiskUnit). u.disk.tags) (found (slice_get l n)) []) is)
     (ap (λ (l : List DeviceState). option_map_or (λ (u : DiskUnit). u.disk.on_hold) (found (slice_get l n)) false) is)
 
-comes : {A : Type 0} (n : ℕ) (what : EventKind A) (old new : SlotState) → slice_get old.devices n ≡ None
+pub comes : {A : Type 0} (n : ℕ) (what : EventKind A) (old new : SlotState) → slice_get old.devices n ≡ None
     → StepsTo (Further n) what old new
 comes n what old new none =
     Comes

@@ -47,6 +47,7 @@ pub mod HostedDisks
 pub mod DiskSteps
 pub mod OnHost
 pub mod Waiting
+pub mod DiskPieces
 pub mod HostedWindows
 pub mod Holding
 pub mod Releasing

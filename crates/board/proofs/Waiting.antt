@@ -47,7 +47,7 @@ word_keeps found Release tag device on_hold q q' is other no_drop told =
     look_left (KeepsTag tag) (keeps_tag tag) device q q' told
 
 module _ {A : Type 0} (disk : SlotDisk) (old : SlotState) (tag : ℕ) (here : InFlight) (what : EventKind A) where
-  outlasts_by : (new : SlotState) → get_or (in_flight_of disk old) tag None ≡ Some here → LeavesTagOf disk tag what
+  pub outlasts_by : (new : SlotState) → get_or (in_flight_of disk old) tag None ≡ Some here → LeavesTagOf disk tag what
       → StepsTo disk what old new → get_or (in_flight_of disk new) tag None ≡ Some here
   outlasts_by new taken other (Stays tags on_hold) = ap (λ l. get_or l tag None) tags ∙ taken
   outlasts_by new taken other (Retakes restores tags) = ap (λ l. get_or l tag None) tags ∙ taken

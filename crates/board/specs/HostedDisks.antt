@@ -98,10 +98,6 @@ pub record LeavesTagOf {A : Type 0} (disk : SlotDisk) (tag : ℕ) (what : EventK
   pub other : option_and_then tag_of (said_of disk what) ≢ Some tag
   pub no_drop : said_of disk what ≢ Some Drop
 
--- and of the slot's own
-abbrev pub LeavesTag : {A : Type 0} → ℕ → EventKind A → Type 0
-LeavesTag = LeavesTagOf Own
-
 -- ---- a hold, a release, and a notification
 
 -- a disk on hold, or not; another device stays

@@ -1,37 +1,21 @@
--- What waits for what is in flight changes nothing, and what is in flight stays so.
-use Rattle.std.proofs.Common.{◌≡◌, ◌≢◌, inl, inr, ℕ, Bool, true, List, [], ◌++◌, get_or, Option, Some, None, refl, sym, ◌∙◌, ap, subst, append-nil}
+-- What waits for what is in flight changes nothing.
+use Rattle.std.proofs.Common.{◌≡◌, ◌≢◌, inl, inr, ℕ, Bool, true, List, [], ◌++◌, Option, Some, None, refl, sym, ◌∙◌, ap, subst, append-nil}
 use Rattle.std.specs.Prelude.{MatchOption, nat_lt, slice_set}
 use Rattle.std.specs.List.{slice_get}
-use Rattle.std.specs.Option.{option_and_then}
 use Rattle.std.proofs.lemmas.Bool.{cases_eq}
 use Rattle.board.specs.declared.event.Event.{Event}
-use Rattle.board.specs.declared.pause.Pause.{Pause}
 use Rattle.board.specs.declared.reply.Reply.{Reply}
 use Rattle.board.specs.declared.reply.Reply.TheVariants as reply
 use Rattle.board.specs.declared.reply.Record.{Record}
-use Rattle.block_device.specs.Flights.{InFlight}
-use Rattle.board.specs.Backing.{HostDisk, tags_in}
-use Rattle.board.specs.declared.slot_disk.SlotDisk.TheVariants.{Own}
-use Rattle.board.specs.HostedDisks.{LeavesTag}
 use Rattle.board.specs.Image.{Health}
 use Rattle.board.specs.Outcome.{Outcome, replies}
-use Rattle.board.specs.Slot.{BoardSlot, SlotState}
-use Rattle.board.specs.World.{KeepsOthers, MayGive, MissingStep, SlotStep, World, met_refusal, noted}
+use Rattle.board.specs.Slot.{SlotState}
+use Rattle.board.specs.World.{MayGive, MissingStep, SlotStep, World, met_refusal, noted}
 use Rattle.board.specs.Waiting.{may_wait}
-use Rattle.board.proofs.Alone.{get_set}
 use Rattle.board.proofs.Seats.{noted_none}
-use Rattle.board.proofs.Waiting.{busy_stays, outlasts, rested, waited}
-use Rattle.session.specs.declared.response.Response.{Response}
-use Rattle.session.specs.declared.response.Response.TheVariants.{Answered, More, Busy, Idle}
-use Rattle.session.specs.Course.{IsCalled}
-use Rattle.session.specs.Operations.{flight_at}
-use Rattle.session.specs.Pacing.{Call, GoOn, Handle, IfEvent, slot_in}
-use Rattle.session.specs.Pausing.{ComesTo, IsWhole}
+use Rattle.board.proofs.Waiting.{busy_stays, rested, waited}
 use Rattle.session.specs.Session.{IsKept, IsStep, SessionState, output_of, waiting_at, world_of}
-use Rattle.session.proofs.Asking.{going_on_keeps, pausing_keeps, seen_at}
-use Rattle.session.proofs.PacedCourses.{by_pause}
 use Rattle.board.proofs.Lists.{set_same}
-use Rattle.session.proofs.Suiting.{never_busy, never_idle}
 use Rattle.session.proofs.Waiting.{others_wait, same_outlet}
 
 -- ---- an event that waits, and a completion of a free tag
@@ -136,75 +120,3 @@ idle_keeps {A} old new event h =
     (λ failures. refl) (λ state before after outcome given is.
     let found = rested state.host state event.what before after outcome given is in
     stays state before after outcome reply.Idle found.0 found.1) h.answers.step
-
--- ---- what is in flight
-
--- a call keeps every slot but its own
-called_others : {A : Type 0} (old new : SessionState) (call : Call A) (response : Response A)
-    (o : Option (Option Pause)) → ComesTo call o old response new
-    → KeepsOthers (slot_in call) old.slots new.slots
-called_others old new (Handle event) response (Some None) h = h.turn.others
-called_others old new (GoOn slot) response (Some (Some pause)) h = h.others
-called_others old new call response o h = λ other differ. ap (λ (s : SessionState). slice_get s.slots other) h.1
-
--- what is in flight with a tag
-abbrev flight_of : ℕ → Option HostDisk → Option InFlight
-flight_of tag host = get_or (tags_in host) tag None
-
--- an event that is answered keeps what is in flight of its slot
-step_flies : {A : Type 0} (old new : SessionState) (event : Event A) (told : Reply A) (tag : ℕ) (here : InFlight)
-    (o : Option SlotState) (h : IsStep old event told new) → slice_get (world_of old).slots event.slot ≡ o
-    → LeavesTag tag event.what → option_and_then (λ (state : SlotState). flight_of tag state.host) o ≡ Some here
-    → MatchOption o (MissingStep (world_of old) event.slot h.answers.written (world_of new))
-    (λ state. SlotStep (world_of old) event.slot state event.what h.answers.written (world_of new))
-    → option_and_then (λ (state : SlotState). flight_of tag state.host)
-    (slice_get (world_of new).slots event.slot) ≡ Some here
-step_flies old new event told tag here None h there other flies step = absurd (cc (flies))
-step_flies old new event told tag here (Some state) h there other flies step =
-    ap (λ (o : Option SlotState). option_and_then (λ (s : SlotState). flight_of tag s.host) o)
-    (ap (λ (states : List SlotState). slice_get states event.slot) step.slots
-    ∙ get_set (world_of old).slots event.slot state step.outcome.state there)
-    ∙ outlasts Own state tag here event.what (world_of old).health (world_of new).health step.outcome flies other
-    step.given
-
-own_flies : {A : Type 0} (old new : SessionState) (event : Event A) (response : Response A) (tag : ℕ)
-    (here : InFlight) (o : Option (Option Pause)) → LeavesTag tag event.what
-    → ComesTo (Handle event) o old response new → IsWhole old event response new
-    → flight_at event.slot tag old.slots ≡ Some here → flight_at event.slot tag new.slots ≡ Some here
-own_flies old new event (Answered told) tag here o other comes whole flies =
-    seen_at (flight_of tag) new.slots new.image event.slot
-    ∙ step_flies old new event told tag here (slice_get (world_of old).slots event.slot) whole refl other
-    (sym (seen_at (flight_of tag) old.slots old.image event.slot) ∙ flies) whole.answers.step
-own_flies old new event More tag here o other comes whole flies =
-    pausing_keeps (flight_of tag) old new event o comes ∙ flies
-own_flies old new event Busy tag here (Some None) other comes whole flies =
-    absurd (never_busy comes.turn.turn (sym comes.turn.told))
-own_flies old new event Idle tag here (Some None) other comes whole flies =
-    absurd (never_idle comes.turn.turn (sym comes.turn.told))
-own_flies old new event response tag here o other comes whole flies =
-    ap (λ (s : SessionState). flight_at event.slot tag s.slots) comes.1 ∙ flies
-
--- no completion of this tag of a slot, and no drop of it
-abbrev IsOther : {A : Type 0} → ℕ → ℕ → Call A → Type 0
-IsOther slot tag call = IfEvent call (λ event. event.slot ≡ slot → LeavesTag tag event.what)
-
-called_flies : {A : Type 0} (old new : SessionState) (call : Call A) (response : Response A) (slot tag : ℕ)
-    (here : InFlight) → slot_in call ≡ slot → IsOther slot tag call → IsCalled old call response new
-    → flight_at (slot_in call) tag old.slots ≡ Some here → flight_at (slot_in call) tag new.slots ≡ Some here
-called_flies old new (Handle event) response slot tag here is other h flies =
-    own_flies old new event response tag here (slice_get old.paused event.slot) (other is) h.turn h.whole flies
-called_flies old new (GoOn own) response slot tag here is other h flies =
-    going_on_keeps (flight_of tag) old new own response (slice_get old.paused own) h ∙ flies
-
-pub flies_on : {A : Type 0} (old new : SessionState) (call : Call A) (response : Response A) (slot tag : ℕ)
-    (here : InFlight) → IsOther slot tag call → IsCalled old call response new
-    → flight_at slot tag old.slots ≡ Some here → flight_at slot tag new.slots ≡ Some here
-flies_on old new call response slot tag here other h flies =
-    elim (cases_eq (slot_in call) slot) [
-      | inl is ↦ subst (λ k. flight_at k tag new.slots ≡ Some here) is
-          (called_flies old new call response slot tag here is other h
-          (subst (λ k. flight_at k tag old.slots ≡ Some here) (sym is) flies))
-      | inr differs ↦ ap (λ (o : Option BoardSlot). option_and_then (λ (found : BoardSlot). flight_of tag found.host) o)
-          (called_others old new call response (slice_get old.paused (slot_in call))
-          (by_pause old call response new h) slot (λ same. differs (sym same))) ∙ flies
-    ]

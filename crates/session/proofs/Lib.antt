@@ -26,6 +26,7 @@ pub mod Exact
 pub mod ExactDevices
 pub mod Asking
 pub mod Kept
+pub mod Flying
 pub mod Refusals
 pub mod Untouched
 pub mod Devices

@@ -20,9 +20,12 @@ use Rattle.board.specs.Slot.{BoardSlot, is_at_work, state_of}
 use Rattle.board.specs.Waiting.{waits_beside}
 use Rattle.session.specs.Session.{SessionState}
 
--- what is in flight with this tag of a slot's own disk: nothing where that is of the image
-abbrev pub flight_at : ℕ → ℕ → List BoardSlot → Option InFlight
-flight_at slot tag slots = option_and_then (λ found. get_or (tags_in found.host) tag None) (slice_get slots slot)
+-- what is in flight with this tag of a disk: nothing where that isn't one that its host serves
+abbrev pub flight_of : SlotDisk → ℕ → BoardSlot → Option InFlight
+flight_of disk tag found = option_and_then (λ served. get_or served.tags tag None) (disk_in disk found)
+
+abbrev pub flight_at : ℕ → SlotDisk → ℕ → List BoardSlot → Option InFlight
+flight_at slot disk tag slots = option_and_then (flight_of disk tag) (slice_get slots slot)
 
 -- the disk of a slot that its host serves, if it is one
 abbrev pub hosted_disk_at : ℕ → SlotDisk → List BoardSlot → Option HostedDisk

@@ -9,7 +9,8 @@ ghost use Rattle.board.specs.declared.event.EventKind.{EventKind};
 ghost use Rattle.board.specs.declared.reply.Reply.{Reply};
 ghost use Rattle.block_device.specs.Flights.{InFlight};
 ghost use Rattle.board.specs.Fault.{IsAccepted};
-ghost use Rattle.board.specs.HostedDisks.{LeavesTag};
+ghost use Rattle.board.specs.declared.slot_disk.SlotDisk.{SlotDisk};
+ghost use Rattle.board.specs.HostedDisks.{LeavesTagOf};
 ghost use Rattle.board.specs.Pausing.{HasLimit};
 ghost use Rattle.board.specs.Slot.{BoardSlot, SlotState, state_of};
 ghost use Rattle.board.specs.Untouched.{touches_memory};
@@ -133,12 +134,13 @@ pub fn a_write_in_place_is_an_event<A: Allocator>()
         (Response.Answered Reply.Done) (with_slot_bytes slot addr old bytes) }
 {}
 
-/// What is in flight of a slot's own disk stays in flight, whatever is called, for its guest or for others, and whatever
-/// else is completed: only the completion of its tag ends it, and a drop of its slot.
+/// What is in flight of a slot's disk stays in flight, whatever is called, for its guest or for others, whatever is paused, and
+/// whatever else is completed: only the completion of its tag ends it, and a drop of the disk.
 pub fn a_flight_outlasts_own_events<A: Allocator>()
-    ensures { (old new : SessionState) (call : Call A) (response : Response A) (slot tag : ℕ) (here : InFlight) →
-        IfEvent call (λ event. event.slot ≡ slot → LeavesTag tag event.what) → IsCalled old call response new →
-        flight_at slot tag old.slots ≡ Some here → flight_at slot tag new.slots ≡ Some here }
+    ensures { (old new : SessionState) (call : Call A) (response : Response A) (slot : ℕ) (disk : SlotDisk) (tag : ℕ)
+        (here : InFlight) → IfEvent call (λ event. event.slot ≡ slot → LeavesTagOf disk tag event.what) →
+        IsCalled old call response new →
+        flight_at slot disk tag old.slots ≡ Some here → flight_at slot disk tag new.slots ≡ Some here }
 {}
 
 /// An event that waits for what is in flight changes nothing, and only writes that may stop a disk's queue and a restore may
