@@ -1,5 +1,5 @@
 -- What an embedder does to a slot between events, as the step of that event.
-use Rattle.std.proofs.Common.{◌≡◌, ◌≢◌, inl, ℕ, Bool, true, false, ◌||◌, nat_lt, arith, List, [], length, MutBor, None, Some, refl, sym, ◌∙◌, ap, subst}
+use Rattle.std.proofs.Common.{◌≡◌, inl, ℕ, Bool, true, false, ◌||◌, nat_lt, arith, List, [], length, MutBor, None, Some, refl, sym, ◌∙◌, ap}
 use Rattle.std.specs.Prelude.{Err, IsSomeAnd, Ok, OnErr, Result, slice_set}
 use Rattle.std.specs.Bool.{OnTrue}
 use Rattle.std.specs.List.{IsItemAtMut, slice_get}
@@ -7,21 +7,17 @@ use Rattle.std.proofs.Math.Seq.{map-set_same}
 use Rattle.std.proofs.lemmas.Bool.Decides.{nat_tests}
 use Rattle.std.proofs.lemmas.Option.{get_or_from_slice_get, slice_get-map}
 use Rattle.guest_memory.specs.Memory.{is_inside, stored}
-use Rattle.chain.specs.declared.budget.Budget.{Budget}
 use Rattle.board.specs.declared.event.SlotWindow.{SlotWindow}
 use Rattle.sector_cache.specs.Disk.{Disk, IsWhole}
 use Rattle.board.specs.declared.event.EventKind.{EventKind}
 use Rattle.board.specs.declared.event.EventKind.TheVariants.{MemWrite}
-use Rattle.board.specs.declared.pause.Turn.{Turn}
-use Rattle.board.specs.declared.pause.Turn.TheVariants.{Answered, More}
 use Rattle.board.specs.declared.reply.Reply.{Reply}
-use Rattle.board.specs.declared.reply.Reply.TheVariants.{BadSlot, Done, NoMemory}
+use Rattle.board.specs.declared.reply.Reply.TheVariants.{BadSlot, Done}
 use Rattle.board.specs.Extent.{AreSound}
 use Rattle.board.specs.Image.{Tells, bytes_of, health_of, sectors_of}
 use Rattle.board.specs.Machine.{block_irq, console_irq, register}
 use Rattle.board.specs.Outcome.{replies}
-use Rattle.board.specs.Pausing.{Begins, met_in}
-use Rattle.board.specs.Quiet.{AnswersQuietly, BeginsQuietly}
+use Rattle.board.specs.Quiet.{AnswersQuietly}
 use Rattle.board.specs.Slot.{BoardSlot, state_of}
 use Rattle.board.specs.World.{Answers, BoardState, KeepsOthers, disturbed_of, extents_of, seen, world_of}
 use Rattle.board.proofs.Blocks.{count_of}
@@ -44,29 +40,6 @@ disturbed_kept slots h slot new here same =
 unmet : (b : Bool) (n : ℕ) → b ≡ (b || (false || nat_lt n n))
 unmet true n = refl
 unmet false n = grind (arith, nat_tests)
-
--- what is typed meets no refusal, whether its service pauses or not
-pub unmet_turn : {A : Type 0} (slot new : BoardSlot) (turn : Turn A) (failures : ℕ)
-    → new.disturbed ≡ slot.disturbed → turn ≢ Answered NoMemory
-    → new.disturbed ≡ (slot.disturbed || met_in turn failures failures)
-unmet_turn slot new (More pause) failures note had = note ∙ unmet slot.disturbed failures
-unmet_turn slot new (Answered reply) failures note had =
-    note ∙ (unmet slot.disturbed failures
-    ∙ ap (λ (b : Bool). slot.disturbed || (b || nat_lt failures failures))
-    (sym (had_memory reply (λ lacks. had (ap (λ r. Answered r) lacks)))))
-
--- an event that is done in its first turn is answered so
-pub whole_quietly : {A : Type 0} (old new : BoardSlot) (what : EventKind A) (budget : Budget) (turn : Turn A)
-    (reply : Reply A) → turn ≡ Answered reply → BeginsQuietly old what budget new turn → AnswersQuietly old what new reply
-whole_quietly {A} old new what budget turn reply is h = record {
-  given = λ image health filled.
-      whole what budget (state_of image old) health health (state_of image new) [] reply
-      (subst (λ (t : Turn A). Begins what budget (state_of image old) health health (state_of image new) [] t) is
-      (h.begins image health));
-  place = h.place;
-  disturbed = h.disturbed;
-  answered = λ lacks. h.answered (is ∙ ap (λ r. Answered r) lacks);
-}
 
 -- What a call leaves of the board that answers a slot's event so, in which the image has no part.
 pub record LeavesQuietly {I A : Type 0} (disk : I → Disk) (old : BoardState I) (h : ℕ) (what : EventKind A)

@@ -1,5 +1,5 @@
 -- What is done to a further device, by whether it asks a disk over the image for a service.
-use Rattle.std.proofs.Common.{◌≡◌, ℕ, ◌+◌, ◌*◌, Bool, true, false, zero, suc, Option, Some, None, List, ◌++◌, take, drop, length, refl, sym, ap, subst, ◌∙◌, arith}
+use Rattle.std.proofs.Common.{◌≡◌, ℕ, ◌+◌, ◌*◌, Bool, true, false, zero, suc, Option, Some, None, List, ◌++◌, take, drop, length, refl, sym, ap, ◌∙◌, arith}
 use Rattle.std.specs.Prelude.{IsSome, ⊤, if◌then◌else◌, is_none, nat_le, slice_set}
 use Rattle.std.specs.List.{slice_get}
 use Rattle.std.specs.Option.{option_and_then, option_map, option_map_or}
@@ -407,14 +407,3 @@ hosted_serves_none (Further n q) state hosted = by_host state.host refl hosted
     by_host : (host : Option HostDisk) → state.host ≡ host → IsSome host → image_served (Further n q) state ≡ None
     by_host None is some = absurd (cc some)
     by_host (Some disk) is some = served_hosted n q state disk is
-
--- so one that serves it has no such disk
-pub serving_no_host : (which : Service) (state : SlotState) → IsSome (image_served which state) → state.host ≡ None
-serving_no_host which state serves = by_host state.host refl
-  where
-    by_host : (host : Option HostDisk) → state.host ≡ host → host ≡ None
-    by_host None is = refl
-    by_host (Some disk) is =
-        let none = hosted_serves_none which state (subst (λ (h : Option HostDisk). IsSome h) (sym is) refl) in
-        let never : IsSome {T = BlockDevice} None = subst (λ (f : Option BlockDevice). IsSome f) none serves in
-        absurd (cc never)

@@ -1,6 +1,6 @@
 -- What is done to a further device begins: its service's first piece, or what is done at once.
 use Rattle.std.proofs.Common.{◌≡◌, inl, inr, length, ℕ, Bool, true, false, false, Option, Some, None, List, [], refl, sym, ◌∙◌, ap, subst}
-use Rattle.std.specs.Prelude.{IsSome, if◌then◌else◌, is_none, is_some}
+use Rattle.std.specs.Prelude.{if◌then◌else◌, is_none, is_some}
 use Rattle.std.specs.Bool.{OnTrue}
 use Rattle.std.specs.List.{slice_get}
 use Rattle.std.specs.Option.{option_and_then, option_map, option_map_or}
@@ -25,11 +25,9 @@ use Rattle.board.specs.declared.pause.Turn.{Turn}
 use Rattle.board.specs.declared.pause.Turn.TheVariants.{Answered}
 use Rattle.board.specs.declared.reply.Reply.{Reply}
 use Rattle.board.specs.declared.reply.Reply.TheVariants.{BadRange, BadSlot, NoMemory}
-use Rattle.board.specs.declared.pause.Service.TheVariants.{Further}
-use Rattle.board.specs.ImageDisks.{image_served_in}
 use Rattle.board.specs.Devices.{device_asks, devices_readied, further_service}
 use Rattle.board.specs.Pausing.{ComesTo, TurnsTo}
-use Rattle.board.specs.Quiet.{AsksImageDisk, BeginsAtDevice, DoesToDevice, ServesFurther}
+use Rattle.board.specs.Quiet.{BeginsAtDevice, DoesToDevice, ServesFurther}
 use Rattle.board.specs.Slot.{BoardSlot, state_of}
 use Rattle.board.proofs.FurtherPieces.{sender}
 use Rattle.board.specs.World.{MayGiveOverImage}
@@ -194,25 +192,6 @@ module _ {A : Type 0} (n : ℕ) (budget : Budget) (view old : BoardSlot) (seen :
       by_sent None taken is found change = absurd (cc (is))
       by_sent (Some sent) true is found change = change
       by_sent (Some sent) false is found change = absurd (cc (found))
-
--- a write that notifies a disk over the image asks for its service
-pub write_asks_image : (A : Type 0) (n : ℕ) (view old : BoardSlot) (seen : view ≡ old) (changed : List DeviceState)
-    (offset width value q : ℕ)
-    → Some (Some q) ≡ option_map (notified_at offset width value) (slice_get view.devices n)
-    → option_map (waits_at offset) (slice_get view.devices n) ≡ Some false
-    → changed ≡ changed_at (device_written offset width value view.memory) n view.devices
-    → IsSome (image_served_in (Further n q) (having view changed))
-    → AsksImageDisk {A = A} (Device n (Write offset width value)) old (having view changed) (further_service n q None)
-write_asks_image A n view old seen changed offset width value q notified free is some =
-    subst (λ (s : BoardSlot). AsksImageDisk {A = A} (Device n (Write offset width value)) s (having view changed)
-    (further_service n q None)) seen
-    (record {
-      asks = λ image. same_asks {A = A} n (Write offset width value) image view
-          ∙ write_asks A n view offset width value q notified free;
-      image = some;
-      readied = λ image. ap (λ (l : List DeviceState). state_of image (having view l)) is;
-      rest = refl;
-    })
 
 -- ---- what was sent is taken
 

@@ -1,5 +1,5 @@
 -- A disk that the host serves, as its slot's guest sees it.
-use Rattle.std.proofs.Common.{◌≡◌, ℕ, Bool, true, false, List, Option, Some, None, refl, subst, sym, ap, ◌∙◌}
+use Rattle.std.proofs.Common.{◌≡◌, ℕ, Bool, true, false, List, Option, Some, None, refl, subst, sym, ap}
 use Rattle.std.specs.Prelude.{◌&&◌, IsSome, is_some}
 use Rattle.std.specs.Bool.{OnTrue, OnFalse}
 use Rattle.guest_memory.specs.Memory.{Memory}

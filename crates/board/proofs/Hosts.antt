@@ -1,11 +1,10 @@
 -- What an event of a slot comes to by who has its disk.
-use Rattle.std.proofs.Common.{◌≡◌, ◌≢◌, ◌⊎◌, inl, inr, ℕ, zero, Bool, true, false, Option, Some, None, List, [], refl, sym, ◌∙◌, ap, subst, append-nil}
+use Rattle.std.proofs.Common.{◌≡◌, ◌≢◌, ◌⊎◌, inl, inr, ℕ, zero, Bool, true, false, Option, Some, None, List, [], refl, sym, ap, subst, append-nil}
 use Rattle.std.specs.Prelude.{◌&&◌, ◌||◌, if◌then◌else◌, IfErr, IsSome, OnErr, OnOk, Ok, Err, Result, is_some}
 use Rattle.chain.specs.declared.budget.Budget.{Budget}
 use Rattle.block_device.specs.Tags.{is_any}
 use Rattle.board.specs.declared.event.SlotWindow.{SlotWindow}
 use Rattle.board.specs.declared.event.SlotWindow.TheVariants.{Block}
-use Rattle.console_device.specs.Input.{fitting}
 use Rattle.board.specs.declared.event.EventKind.{EventKind}
 use Rattle.block_device.specs.declared.operation.HostEvent.{HostEvent}
 use Rattle.board.specs.declared.event.DeviceEvent.{DeviceEvent}
@@ -16,15 +15,15 @@ use Rattle.mmio_window.specs.declared.stage.Stage.TheVariants.{First, Next}
 use Rattle.board.specs.declared.pause.Turn.{Turn}
 use Rattle.board.specs.declared.pause.Turn.TheVariants.{Answered, More}
 use Rattle.board.specs.declared.reply.Reply.{Reply}
-use Rattle.board.specs.declared.reply.Reply.TheVariants.{Busy, NoMemory, Took}
+use Rattle.board.specs.declared.reply.Reply.TheVariants.{Busy, NoMemory}
 use Rattle.board.specs.Backing.{HostDisk, tags_in}
 use Rattle.board.specs.Hosting.{HostGives, HostOrGives, LooksAtQueue, OwnGives, has_part, is_block_task, must_wait, notifies_block, told_in, waits_now}
 use Rattle.board.specs.Image.{Health, sectors_of}
 use Rattle.board.specs.Outcome.{Outcome, does, replies}
-use Rattle.board.specs.Pausing.{Begins, BeginsOverImage, ComesTo, EndsBy, GoesOn, GoesOnBy, PausesByLimit, ServesTurn, TurnsTo, asked_over_image, input_service, is_hosts, readied, reply_of}
+use Rattle.board.specs.Pausing.{Begins, BeginsOverImage, ComesTo, GoesOn, GoesOnBy, PausesByLimit, ServesTurn, TurnsTo, asked_over_image, input_service, is_hosts, readied, reply_of}
 use Rattle.board.specs.declared.pause.Service.TheVariants as service
 use Rattle.board.specs.Machine.{action_at, task_at, with_input}
-use Rattle.board.specs.Quiet.{AnswersQuietly, BeginsAtDevice, BeginsQuietly, DoesToDevice}
+use Rattle.board.specs.Quiet.{BeginsAtDevice, BeginsQuietly}
 use Rattle.board.specs.Restoring.{refusal_of, restore_reply, taken_up_reply}
 use Rattle.board.specs.Saved.{IsCauseOf, IsRestored}
 use Rattle.board.specs.declared.saved.RestoreFault.{RestoreFault}
@@ -107,19 +106,6 @@ input_passes A host bytes state =
 place_of : (old new : BoardSlot) → new ≡ record old { memory = new.memory; devices = new.devices } → KeepsPlace old new
 place_of old new rest = (ap (λ (s : BoardSlot). s.extent) rest, ap (λ (s : BoardSlot). s.spare) rest)
 
--- in what is done to a further device it has none
-pub device_quiet : {A : Type 0} (n : ℕ) (what : DeviceEvent A) (old new : BoardSlot) (reply : Reply A)
-    → reply ≢ NoMemory → DoesToDevice n what old new reply → AnswersQuietly old (Device n what) new reply
-device_quiet n what old new reply answered does = record {
-  given = λ image health filled.
-      passes_by old.host (state_of image old) (Device n what) health (replies (state_of image new) reply)
-      (no_part old.host (Device n what) (state_of image old) refl (no_wait (is_any (tags_in old.host))) refl)
-      (does.given image health);
-  place = place_of old new does.rest;
-  disturbed = ap (λ (s : BoardSlot). s.disturbed) does.rest;
-  answered = answered;
-}
-
 -- a service of the console goes on as over an image
 pub goes_on : (host : Option HostDisk) (which : Service) → which ≢ service.Block
     → is_hosts host which ≡ false
@@ -173,6 +159,7 @@ device_begins n what budget old new turn answered does = record {
   disturbed = ap (λ (s : BoardSlot). s.disturbed) does.rest;
   limited = does.limited;
   there = does.there;
+  in_range = does.in_range;
   answered = answered;
 }
 
@@ -192,32 +179,9 @@ input_begins {A} bytes budget old new turn comes rest limited took = record {
   disturbed = ap (λ (s : BoardSlot). s.disturbed) rest;
   limited = limited;
   there = λ bad. elim took [ inl is ↦ absurd (cc (is, bad)) | inr is ↦ absurd (cc (is, bad)) ];
+  in_range = λ bad. elim took [ inl is ↦ absurd (cc (is, bad)) | inr is ↦ absurd (cc (is, bad)) ];
   answered = λ lacks. elim took [ inl is ↦ absurd (cc (is, lacks)) | inr is ↦ absurd (cc (is, lacks)) ];
 }
-
--- which without a limit is done at once
-typed_ends : {A : Type 0} (pause : Pause) (taken : ℕ) (old : SlotState) (health : Health) (new : SlotState) (reply : Reply A)
-    → pause ≡ record { service = service.Receive; taken = Some taken }
-    → EndsBy pause First unlimited old health health new [] reply → reply ≡ Took taken
-typed_ends pause taken old health new reply is (inl (done, piece)) = done ∙ ap reply_of is
-typed_ends pause taken old health new reply is (inr (lacks, (other, piece))) =
-    let never : service.Receive ≡ service.Transmit = sym (ap (λ (p : Pause). p.service) is) ∙ other in
-    absurd (cc (never))
-
-pub typed_whole : {A : Type 0} (bytes : List ℕ) (old new : BoardSlot) (turn : Turn A)
-    → BeginsQuietly old (Input bytes) unlimited new turn → turn ≡ Answered (Took (fitting old.pending bytes))
-typed_whole {A} bytes old new (More next) h =
-    elim (h.limited next refl) [ inl limit ↦ absurd (limit refl) | inr limit ↦ absurd (limit refl) ]
-typed_whole {A} bytes old new (Answered reply) h =
-    let rest : Health = record { failures = 0; dirty = false } in
-    let begins : TurnsTo (λ (o : Outcome A). MayGive (state_of [] old) (Input bytes) rest rest o)
-    (Some (input_service old.pending bytes)) (Input bytes) unlimited (state_of [] old) rest rest (state_of [] new) []
-    (Answered reply) =
-    subst (λ (b : Bool). TurnsTo (λ (o : Outcome A). MayGive (state_of [] old) (Input bytes) rest rest o)
-    (if b then None else Some (input_service old.pending bytes)) (Input bytes) unlimited (state_of [] old) rest rest
-    (state_of [] new) [] (Answered reply)) (input_passes A old.host bytes (state_of [] old)) (h.begins [] rest) in
-    ap (λ r. Answered r) (typed_ends (input_service old.pending bytes) (fitting old.pending bytes)
-    (with_input bytes (state_of [] old)) rest (state_of [] new) reply refl begins)
 
 pub serves_passing : {A : Type 0} (what : EventKind A) (budget : Budget) (state : SlotState)
     (health : Health) (new : SlotState) (turn : Turn A) (out out' : List ℕ)

@@ -234,11 +234,6 @@ image_disk n zero slot some =
     record { disk = f.disk; found = f.found_is; within = f.within; host = f.host_is; served = λ image. f.is }
 image_disk n (suc q) slot some = absurd (cc)
 
--- none is served where none is found
-pub not_found : (o : Option BlockDevice) → false ≡ is_some o → o ≡ None
-not_found None is = refl
-not_found (Some disk) is = absurd (cc (is))
-
 pub is_found : (o : Option BlockDevice) → true ≡ is_some o → IsSome o
 is_found None is = absurd (cc (is))
 is_found (Some disk) is = refl

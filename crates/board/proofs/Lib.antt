@@ -1,4 +1,5 @@
 pub mod Guests
+pub mod Silent
 pub mod Saving
 pub mod Restoring
 pub mod OneRun

@@ -9,7 +9,6 @@ use Rattle.board.specs.declared.event.DeviceEvent.TheVariants as device
 use Rattle.board.specs.Devices.{MayReplyDevice}
 use Rattle.board.specs.declared.event.EventKind.{EventKind}
 use Rattle.block_device.specs.declared.operation.HostEvent.{HostEvent}
-use Rattle.block_device.specs.declared.operation.HostEvent.TheVariants.{Complete, Drop, Hold, Release}
 use Rattle.board.specs.declared.event.EventKind.TheVariants.{Write, MemRead, MemWrite, Input, Restore, Host, Device}
 use Rattle.board.specs.declared.reply.Reply.{Reply}
 use Rattle.board.specs.declared.reply.Reply.TheVariants.{Done, Bytes, BadRange, BadState, Busy, Idle, NoMemory}

@@ -21,7 +21,7 @@ use Rattle.board.specs.declared.pause.Pause.{Pause}
 use Rattle.board.specs.declared.pause.Service.{Service}
 use Rattle.board.specs.declared.pause.Service.TheVariants.{Block, Receive, Transmit, Further}
 use Rattle.board.specs.declared.pause.Work.{Work}
-use Rattle.board.specs.declared.pause.Work.TheVariants.{Begin, Resume}
+use Rattle.board.specs.declared.pause.Work.TheVariants.{Begin, InPlace, Resume}
 use Rattle.board.specs.declared.pause.Turn.{Turn}
 use Rattle.board.specs.declared.pause.Turn.TheVariants.{Answered, More}
 use Rattle.board.specs.declared.reply.Reply.{Reply}
@@ -30,6 +30,7 @@ use Rattle.board.specs.Image.{Health, Tells, bytes_of, health_of, sectors_of, di
 use Rattle.board.specs.Backing.{HostDisk}
 use Rattle.board.specs.Devices.{device_asks}
 use Rattle.board.specs.Hosting.{has_part}
+use Rattle.board.specs.InPlace.{event_in}
 use Rattle.board.specs.ImageDisks.{ServesImageDisk, image_device, image_served}
 use Rattle.board.specs.Machine.{block_irq, console_irq, task_at}
 pub use Rattle.board.specs.Machine.{readied}
@@ -249,15 +250,18 @@ GoesOn pause budget old before after new output turn =
 -- What a turn of a slot comes to, by what it is to do: an event begins, or a service that paused goes on.
 abbrev pub Does : {A : Type 0} → Work A → Budget → SlotState → Health → Health → SlotState
     → List ℕ → Turn A → Type 0
-Does (Begin what) budget old before after new output turn =
+Does {A} (Begin what) budget old before after new output turn =
     Begins what.now budget old before after new output turn
-Does (Resume pause) budget old before after new output turn =
+Does {A} (InPlace what) budget old before after new output turn =
+    Begins {A = A} (event_in what) budget old before after new output turn
+Does {A} (Resume pause) budget old before after new output turn =
     GoesOn pause budget old before after new output turn
 
 -- the turns that may find no memory: those of the events that may, and any of a service that goes on
 abbrev pub MayLackMemoryIn : {A : Type 0} → Work A → SlotState → Type 0
-MayLackMemoryIn (Begin what) state = MayLackMemory state what.now
-MayLackMemoryIn (Resume pause) state = ⊤
+MayLackMemoryIn {A} (Begin what) state = MayLackMemory state what.now
+MayLackMemoryIn {A} (InPlace what) state = MayLackMemory {A = A} state (event_in what)
+MayLackMemoryIn {A} (Resume pause) state = ⊤
 
 -- ---- what is noted of it
 

@@ -89,4 +89,5 @@ pub record BeginsQuietly {A : Type 0} (old : BoardSlot) (what : EventKind A) (bu
   pub disturbed : new.disturbed ≡ old.disturbed
   pub limited : PausesByLimit budget turn
   pub there : turn ≢ Answered BadSlot
+  pub in_range : turn ≢ Answered BadRange
   pub answered : turn ≢ Answered NoMemory

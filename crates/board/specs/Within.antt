@@ -17,7 +17,7 @@ use Rattle.board.specs.declared.pause.Pause.{Pause}
 use Rattle.board.specs.declared.pause.Service.{Service}
 use Rattle.board.specs.declared.pause.Service.TheVariants.{Transmit}
 use Rattle.board.specs.declared.pause.Work.{Work}
-use Rattle.board.specs.declared.pause.Work.TheVariants.{Begin, Resume}
+use Rattle.board.specs.declared.pause.Work.TheVariants.{Begin, InPlace, Resume}
 use Rattle.board.specs.declared.pause.Turn.{Turn}
 use Rattle.board.specs.declared.pause.Turn.TheVariants.{Answered, More}
 use Rattle.board.specs.declared.reply.Reply.{Reply}
@@ -26,6 +26,7 @@ use Rattle.board.specs.Machine.{IsNext, task_at, with_write}
 use Rattle.mmio_window.specs.Pieces.{IsRefusedAt, ServesTo}
 use Rattle.board.specs.Pausing.{asked, asked_over_image, readied, reply_of}
 use Rattle.board.specs.Image.{bytes_of}
+use Rattle.board.specs.InPlace.{event_in}
 use Rattle.board.specs.Slot.{BoardSlot, SlotState, state_of}
 use Rattle.board.specs.Task.{Task, Serve, PutOut}
 use Rattle.board.specs.World.{BoardState}
@@ -182,7 +183,9 @@ GoesOnWithin limit pause budget old new waiting left turn =
 -- And so how a turn is, by what its slot is to do.
 abbrev pub DoesWithin : {A : Type 0} → ℕ → Work A → Budget → SlotState → SlotState → List ℕ
     → List ℕ → Turn A → Type 0
-DoesWithin limit (Begin what) budget old new waiting left turn =
+DoesWithin {A} limit (Begin what) budget old new waiting left turn =
     BeginsWithin limit what.now budget old new waiting left turn
-DoesWithin limit (Resume pause) budget old new waiting left turn =
+DoesWithin {A} limit (InPlace what) budget old new waiting left turn =
+    BeginsWithin {A = A} limit (event_in what) budget old new waiting left turn
+DoesWithin {A} limit (Resume pause) budget old new waiting left turn =
     GoesOnWithin limit pause budget old new waiting left turn

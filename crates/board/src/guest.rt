@@ -8,7 +8,9 @@ ghost use Rattle.std.specs.Prelude.{◌≡◌, ◌≢◌, ◌||◌, ℕ, List, S
 ghost use Rattle.guest_memory.specs.Faults.{AreGood as AreGoodRegions};
 ghost use Rattle.block_device.specs.Extent.{IsWithin, TouchesExtent};
 ghost use Rattle.block_device.specs.Tags.{is_any};
+ghost use Rattle.board.specs.declared.in_place.InPlace.{InPlace};
 ghost use Rattle.board.specs.declared.pause.Turn.{Turn};
+ghost use Rattle.board.specs.declared.pause.Work.{Work};
 ghost use Rattle.board.specs.declared.reply.Reply.{Reply};
 ghost use Rattle.board.specs.Backing.{tags_in};
 ghost use Rattle.board.specs.Fault.{HasRoom};
@@ -96,6 +98,7 @@ impl<A: Allocator + Copy> Guest<A> {
         ensures within { DecidesOver (λ limit. DoesWithin limit work.entry budget) (O.limit out.old) self.old self.new
             (I.disk cache.old) (I.disk cache.new) (O.bytes out.old) (O.bytes out.new) result }
         ensures limit { O.limit out.new ≡ O.limit out.old }
+        ensures silent { (what : InPlace) → work.entry ≡ Work.InPlace what → O.bytes out.new ≡ O.bytes out.old }
         ensures noted { self.new.disturbed ≡ (self.old.disturbed ||
             met_in result (I.disk cache.old).failures (I.disk cache.new).failures) }
         ensures stays { StaysInSlot self.old self.new (I.disk cache.old) (I.disk cache.new) }
@@ -114,6 +117,7 @@ impl<A: Allocator + Copy> Guest<A> {
                 let answer = self.begin(alloc, what, budget, cache, out);
                 self.slot.note(answer)
             }
+            Work::InPlace(what) => self.begin_in_place(what, budget, cache),
             Work::Resume(pause) => {
                 let answer = self.resume(pause, budget, cache, out);
                 self.slot.note(answer)

@@ -4,6 +4,7 @@ ghost use Rattle.std.specs.Prelude.{◌≡◌, None};
 ghost use Rattle.board.specs.Pausing.{reply_of, turn_of};
 
 use crate::event::EventKind;
+use crate::in_place::InPlace;
 use crate::reply::Reply;
 use chain::Progress;
 use std::alloc::{Allocator, Global};
@@ -69,6 +70,8 @@ impl Pause {
 pub enum Work<'a, A: Allocator = Global> {
     /// An event begins.
     Begin(&'a EventKind<A>),
+    /// An event begins whose bytes the caller has in a slice.
+    InPlace(InPlace<'a>),
     /// A service that paused goes on.
     Resume(Pause),
 }

@@ -12,7 +12,6 @@ pub mod Steps
 pub mod Slots
 pub mod Ranges
 pub mod Calls
-pub mod Quiet
 pub mod PacedCourses
 pub mod Alone
 pub mod Made

@@ -1,6 +1,6 @@
 -- The guests' further devices are plugged into their slots, one after another.
 use Rattle.std.proofs.Common.{◌≡◌, ℕ, zero, suc, ◌+◌, ◌<◌, Bool, true, false, List, [], ◌∷◌, ◌++◌, length, map, take, drop, Option, Some, None, refl, sym, ◌∙◌, ap, subst, arith}
-use Rattle.std.specs.Prelude.{◌||◌, slice_set, nat_le, IfNone, IfSome, IsSomeAnd}
+use Rattle.std.specs.Prelude.{◌||◌, slice_set, nat_le, IsSomeAnd}
 use Rattle.std.specs.List.{AllByRecursion, list_any, slice_get}
 use Rattle.std.specs.Option.{option_map}
 use Rattle.std.proofs.lemmas.Bool.Decides.{nat_tests}
@@ -58,26 +58,6 @@ pub bare_over : (guests : List GuestSpec) (bytes : List (List ℕ))
     → AreBare guests (made_over opened_over (slots_of guests) bytes)
 bare_over guests bytes =
     record { many = many_over guests bytes; spares = spares_over guests bytes; none = none_over guests bytes }
-
--- so it is over memories of either kind
-pub bare_made : {X : Type 0} (guests : List GuestSpec) (slots : List BoardSlot) (lent : Option X)
-    (runs : X → List (List ℕ)) → IfNone lent (slots ≡ map opened (slots_of guests))
-    → IfSome lent (λ bytes. slots ≡ made_over opened_over (slots_of guests) (runs bytes)) → AreBare guests slots
-bare_made guests slots None runs none some = subst (AreBare guests) (sym none) (bare_opened guests)
-bare_made guests slots (Some bytes) runs none some =
-    subst (AreBare guests) (sym some) (bare_over guests (runs bytes))
-
--- and what was plugged into them says what was plugged into those
-pub none_plugged : {X : Type 0} (guests : List GuestSpec) (slots made now : List BoardSlot) (lent : Option X)
-    → now ≡ plugged guests slots → IfNone lent (slots ≡ made) → IfNone lent (now ≡ plugged guests made)
-none_plugged guests slots made now None is same = is ∙ ap (plugged guests) same
-none_plugged guests slots made now (Some bytes) is same = tt
-
-pub some_plugged : {X : Type 0} (guests : List GuestSpec) (slots now : List BoardSlot) (made : X → List BoardSlot)
-    (lent : Option X) → now ≡ plugged guests slots → IfSome lent (λ bytes. slots ≡ made bytes)
-    → IfSome lent (λ bytes. now ≡ plugged guests (made bytes))
-some_plugged guests slots now made None is same = tt
-some_plugged guests slots now made (Some bytes) is same = is ∙ ap (plugged guests) same
 
 none_at : (slots : List BoardSlot) (i : ℕ) (found : BoardSlot)
     → AllByRecursion (λ (slot : BoardSlot). slot.devices ≡ []) slots → slice_get slots i ≡ Some found

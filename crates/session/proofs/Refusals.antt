@@ -1,6 +1,6 @@
 -- Why there is no session: of the faults that are there the first.
-use Rattle.std.proofs.Common.{◌≡◌, ℕ, List, length, map, Option, Some, None, Result, Ok, Err, refl, sym, ap, subst, ◌∙◌}
-use Rattle.std.specs.Prelude.{◌≢◌, ◌⊎◌, ◌↔◌, ◌%◌, ◌/◌, OnOk, IfNone, IfOk, IfSome, IfErr, IsErrAnd, IsErrOf}
+use Rattle.std.proofs.Common.{◌≡◌, ℕ, List, length, map, Result, Ok, Err, refl, sym, ap, subst, ◌∙◌}
+use Rattle.std.specs.Prelude.{◌≢◌, ◌⊎◌, ◌↔◌, ◌%◌, ◌/◌, OnOk, IfOk, IfErr, IsErrAnd, IsErrOf}
 use Rattle.std.specs.Vec.{vec_items}
 use Rattle.chain.specs.declared.budget.Budget.{Budget}
 use Rattle.chain.specs.Budget.{IsSpent}
@@ -38,14 +38,6 @@ if_err r why P is p = subst (λ (s : Result _ SessionFault). IfErr s P) (sym is)
 -- and what it says of a session that is there
 pub no_ok : {T : Type 0} (r : Result T SessionFault) (why : SessionFault) (P : T → Type 0) → r ≡ Err why → IfOk r P
 no_ok r why P is = subst (λ (s : Result _ SessionFault). IfOk s P) (sym is) tt
-
-pub in_none : {X : Type 0} (lent : Option X) (P : Type 0) → P → IfNone lent P
-in_none None P p = p
-in_none (Some x) P p = tt
-
-pub in_some : {X : Type 0} (lent : Option X) (P : X → Type 0) → ((x : X) → P x) → IfSome lent P
-in_some None P p = tt
-in_some (Some x) P p = p x
 
 pub is_err : {T : Type 0} (r : Result T SessionFault) (why : SessionFault) (P : SessionFault → Type 0)
     → r ≡ Err why → P why → IsErrAnd r P

@@ -11,6 +11,8 @@ use Rattle.board.specs.declared.event.DeviceEvent.TheVariants.{Plug, TakeSent}
 use Rattle.board.specs.declared.event.Event.{Event}
 use Rattle.board.specs.declared.event.EventKind.{EventKind}
 use Rattle.board.specs.declared.event.EventKind.TheVariants.{Write, MemRead, Device}
+use Rattle.board.specs.declared.in_place.InPlace.{InPlace as InPlaceEvent}
+use Rattle.board.specs.declared.in_place.InPlace.TheVariants as slice
 use Rattle.board.specs.declared.pause.Pause.{Pause}
 use Rattle.board.specs.declared.pause.Turn.{Turn}
 use Rattle.board.specs.declared.pause.Turn.TheVariants as turn
@@ -21,6 +23,7 @@ use Rattle.board.specs.declared.reply.Reply.TheVariants.{BadSlot, BadRange, NoMe
 use Rattle.board.specs.declared.pause.Service.TheVariants.{Transmit}
 use Rattle.board.specs.Extent.{outside_of}
 use Rattle.board.specs.Image.{Health, bytes_of}
+use Rattle.board.specs.InPlace.{event_in}
 use Rattle.board.specs.Machine.{task_at, with_write}
 use Rattle.board.specs.Pausing.{Begins, Does, GoesOn, HasLimit, MayLackMemoryIn, TakesTurn}
 use Rattle.board.specs.Slot.{SlotState, BoardSlot, state_of, whole_extent}
@@ -36,7 +39,7 @@ use Rattle.output_queue.specs.Waiting.{Waiting, none_waiting}
 use Rattle.session.specs.declared.response.Response.{Response}
 use Rattle.session.specs.declared.response.Response.TheVariants.{Answered, More}
 use Rattle.session.specs.declared.turn_kind.TurnKind.{TurnKind}
-use Rattle.session.specs.declared.turn_kind.TurnKind.TheVariants.{Begin, Resume}
+use Rattle.session.specs.declared.turn_kind.TurnKind.TheVariants.{Begin, InPlace, Resume}
 use Rattle.session.specs.Pacing.{GoOn, Handle, call_of, paused_by, response_to, work_in}
 use Rattle.session.specs.Answering.{SuitsCall, SuitsTurn}
 use Rattle.session.specs.Pausing.{IsCall, IsTurn, IsWhole, IsWholeCall}
@@ -143,7 +146,15 @@ limits : {A : Type 0} {P : Type 0} (t : Turn A) → ((next : Pause) → t ≡ tu
 limits (turn.Answered reply) h is = absurd (cc (is))
 limits (turn.More pause) h is = h pause refl
 
--- ---- what a turn of either kind comes to
+-- ---- what a turn of any kind comes to
+
+-- no answer to an event whose bytes are in a slice takes memory
+answers_in_place : (A : Type 0) (what : InPlaceEvent) → AnswersInPlace {A = A} (event_in what)
+answers_in_place A (slice.Input bytes) = tt
+answers_in_place A (slice.Write n offset width value) = tt
+answers_in_place A (slice.Supply n bytes) = tt
+answers_in_place A (slice.Receive n frame) = tt
+answers_in_place A (slice.DropSent n) = tt
 
 pub record Turned {A : Type 0} (old : SessionState) (slot : ℕ) (kind : TurnKind A) (response : Response A)
     (new : SessionState) : Type 0 where
@@ -157,6 +168,11 @@ pub turn_past : {A : Type 0} (s : SessionState) (slot : ℕ) (kind : TurnKind A)
 turn_past s slot (Begin what) none past = record {
   call = rw none (refl, refl);
   whole = missing s (record { slot = slot; what = what.now }) past;
+  suits = tt;
+}
+turn_past s slot (InPlace what) none past = record {
+  call = rw none (refl, refl);
+  whole = missing s (record { slot = slot; what = event_in what }) past;
   suits = tt;
 }
 turn_past s slot Resume none past = record { call = rw none (refl, refl); whole = tt; suits = tt }
@@ -329,7 +345,7 @@ module _ (A : Type 0) (slots slots' : List BoardSlot) (image image' : List ℕ) 
     suits_call (turn.More pause) block console r =
         paused_suits what budget r.taken.state _ _ r.taken.after r.output (turn.More pause) refl r.taken.comes
 
-  -- ---- a turn of either kind
+  -- ---- a turn of any kind
 
   pub turn_taken : (kind : TurnKind A) (pause : Option Pause) (job : Work A) (t : Turn A) (block console : ℕ)
       → slice_get paused slot ≡ Some pause → work_in kind pause ≡ Ok job → BeginsInPlace kind
@@ -343,6 +359,15 @@ module _ (A : Type 0) (slots slots' : List BoardSlot) (image image' : List ℕ) 
             begun.bad_range_keeps begun.no_memory;
         suits = suits_call what.now is t block console begun.takes;
       }
+  turn_taken (InPlace what) None job t block console is told in_place says =
+      let same : job ≡ work.InPlace what = cc (told) in
+      let begun = subst (λ (j : Work A). Says j t block console) same says in
+      record {
+        call = called (event_in what) is t block console begun.takes begun.within begun.limited;
+        whole = whole (event_in what) is t block console (answers_in_place A what) begun.takes begun.within
+            begun.bad_slot begun.bad_range_keeps begun.no_memory;
+        suits = suits_call (event_in what) is t block console begun.takes;
+      }
   turn_taken Resume (Some pause) job t block console is told in_place says =
       let same : job ≡ work.Resume pause = cc (told) in
       record {
@@ -351,4 +376,5 @@ module _ (A : Type 0) (slots slots' : List BoardSlot) (image image' : List ℕ) 
         suits = tt;
       }
   turn_taken (Begin what) (Some pause) job t block console is told in_place says = absurd (cc (told))
+  turn_taken (InPlace what) (Some pause) job t block console is told in_place says = absurd (cc (told))
   turn_taken Resume None job t block console is told in_place says = absurd (cc (told))

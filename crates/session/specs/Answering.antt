@@ -5,9 +5,10 @@ use Rattle.board.specs.declared.event.EventKind.TheVariants.{Write, Input, Devic
 use Rattle.board.specs.declared.event.DeviceEvent.TheVariants as device
 use Rattle.board.specs.declared.reply.Reply.{Reply}
 use Rattle.board.specs.declared.reply.Reply.TheVariants as reply
+use Rattle.board.specs.InPlace.{event_in}
 use Rattle.board.specs.Replies.{MayReply}
 use Rattle.session.specs.declared.turn_kind.TurnKind.{TurnKind}
-use Rattle.session.specs.declared.turn_kind.TurnKind.TheVariants.{Begin, Resume}
+use Rattle.session.specs.declared.turn_kind.TurnKind.TheVariants.{Begin, InPlace, Resume}
 use Rattle.session.specs.declared.progress.Progress.{Progress}
 use Rattle.session.specs.declared.progress.Progress.TheVariants as progress
 use Rattle.session.specs.declared.response.Response.{Response}
@@ -120,5 +121,6 @@ SuitsCall what response.Idle = ⊥
 
 -- and those to a turn
 abbrev pub SuitsTurn : {A : Type 0} → TurnKind A → Response A → Type 0
-SuitsTurn (Begin what) response = SuitsCall what.now response
-SuitsTurn Resume response = ⊤
+SuitsTurn {A} (Begin what) response = SuitsCall what.now response
+SuitsTurn {A} (InPlace what) response = SuitsCall {A = A} (event_in what) response
+SuitsTurn {A} Resume response = ⊤

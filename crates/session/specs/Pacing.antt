@@ -11,11 +11,12 @@ use Rattle.board.specs.declared.pause.Work.{Work}
 use Rattle.board.specs.declared.pause.Work.TheVariants as work
 use Rattle.board.specs.declared.reply.Reply.TheVariants.{BadSlot}
 use Rattle.board.specs.Image.{Health}
+use Rattle.board.specs.InPlace.{event_in}
 use Rattle.board.specs.Pausing.{Begins, GoesOn, SlotTurn}
 use Rattle.board.specs.Slot.{SlotState}
 use Rattle.board.specs.World.{World}
 use Rattle.session.specs.declared.turn_kind.TurnKind.{TurnKind}
-use Rattle.session.specs.declared.turn_kind.TurnKind.TheVariants.{Begin, Resume}
+use Rattle.session.specs.declared.turn_kind.TurnKind.TheVariants.{Begin, InPlace, Resume}
 use Rattle.session.specs.declared.response.Response.{Response}
 use Rattle.session.specs.declared.response.Response.TheVariants.{Answered, More, Busy, Idle}
 
@@ -91,17 +92,20 @@ IsMove budget old move =
     move.output move.block_irq
     move.console_irq move.after
 
--- ---- one turn of either kind
+-- ---- one turn of any kind
 
 -- the call for a slot that asks for a turn of this kind
 abbrev pub call_of : {A : Type 0} → ℕ → TurnKind A → Call A
 call_of slot (Begin what) = Handle (record { slot = slot; what = what.now })
+call_of slot (InPlace what) = Handle (record { slot = slot; what = event_in what })
 call_of slot Resume = GoOn slot
 
 -- what the board is to do for it, by the service of the slot that is paused, or why there is nothing to do
 abbrev pub work_in : {A : Type 0} → TurnKind A → Option Pause → Result (Work A) (Response A)
 work_in (Begin what) None = Ok (work.Begin what)
 work_in (Begin what) (Some pause) = Err Busy
+work_in (InPlace what) None = Ok (work.InPlace what)
+work_in (InPlace what) (Some pause) = Err Busy
 work_in Resume None = Err Idle
 work_in Resume (Some pause) = Ok (work.Resume pause)
 

@@ -25,7 +25,7 @@ use Rattle.session.specs.Pacing.{paused_at}
 use Rattle.session.specs.declared.guest.GuestSpec.{GuestSpec}
 use Rattle.session.specs.declared.told.Waits.{Waits}
 use Rattle.session.specs.declared.turn_kind.TurnKind.{TurnKind}
-use Rattle.session.specs.declared.turn_kind.TurnKind.TheVariants.{Begin, Resume}
+use Rattle.session.specs.declared.turn_kind.TurnKind.TheVariants.{Begin}
 
 -- A session: the slots of its board, the image's bytes and whether a write waits for a flush, for each slot
 -- what its console put out and nobody has taken yet and the service that is paused, if any, and how much one
@@ -186,4 +186,4 @@ AnswersInPlace what = ⊤
 -- a turn that begins no other
 abbrev pub BeginsInPlace : {A : Type 0} → TurnKind A → Type 0
 BeginsInPlace (Begin what) = AnswersInPlace what.now
-BeginsInPlace Resume = ⊤
+BeginsInPlace turn = ⊤

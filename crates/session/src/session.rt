@@ -1,7 +1,7 @@
 //! The session: a board over an image in memory, and what its consoles put out. Where the host serves all disks the image is
 //! empty.
 
-ghost use Rattle.std.specs.Prelude.{◌≡◌, ◌≢◌, ◌⊎◌, ◌↔◌, ◌%◌, ◌/◌, ◌<◌, ℕ, None, Some, map, length, replicate, IsFalse, IsSome, IsTrue, IfNone, IfOk, IfSome, OnOk, IfErr, OnErr, IsErrAnd, IsErrOf};
+ghost use Rattle.std.specs.Prelude.{◌≡◌, ◌≢◌, ◌⊎◌, ◌↔◌, ◌%◌, ◌/◌, ◌<◌, ◌≤◌, ℕ, None, Some, map, length, replicate, IsFalse, IsSome, IsTrue, IfNone, IfOk, IfSome, OnOk, IfErr, OnErr, IsErrAnd, IsErrOf};
 ghost use Rattle.std.specs.List.{slice_get};
 ghost use Rattle.std.specs.Vec.{vec_items};
 ghost use Rattle.chain.specs.Budget.{IsSpent};
@@ -22,6 +22,7 @@ ghost use Rattle.session.specs.Answering.{SuitsCall, SuitsTurn};
 ghost use Rattle.session.specs.Pausing.{IsCall, IsEventCall, IsWholeCall};
 ghost use Rattle.session.specs.Session.{BeginsInPlace, IsIdle, new_session, new_session_over, plugged, slots_of, waits_at};
 ghost use Rattle.session.specs.ImageDisks.{AreImageDisks};
+ghost use Rattle.session.specs.Plugging.{AreBare};
 ghost use Rattle.session.specs.Refusing.{AreDevices, AreOutlets, IsBoardFault, IsJudged, IsLentRefusedFor, IsRefusedFor};
 
 mod console;
@@ -149,16 +150,19 @@ impl<A: Allocator + Copy> Session<A> {
         Session::of_board(alloc, guests, board, budget)
     }
 
-    // A session of a board of these guests, of which nothing is put out or paused.
+    // A session of a board of these guests, which get their further devices. Nothing is put out or paused.
     fn of_board(
         alloc: A,
         guests: &[GuestSpec],
-        board: Board<MemoryImage<A>, A>,
+        mut board: Board<MemoryImage<A>, A>,
         budget: Budget,
     ) -> Result<Session<A>, SessionFault>
-        requires { length board.slots ≡ length guests.now }
+        requires bare { AreBare guests.now board.slots }
+        requires few { length guests.now ≤ 64 }
+        requires devices { AreDevices guests.now }
+        requires image_disks { AreImageDisks guests.now }
         ensures made { IfOk result (λ session. session ≡ record {
-          slots = board.slots;
+          slots = plugged guests.now board.slots;
           image = bytes_of (disk_of board.image);
           dirty = (disk_of board.image).dirty;
           outputs = map (λ guest. none_waiting guest.outlet) guests.now;
@@ -167,6 +171,7 @@ impl<A: Allocator + Copy> Session<A> {
         }) }
         ensures fault { IfErr result (λ why. why ≡ SessionFault.NoMemory) }
     {
+        plug_devices(&mut board, guests)?;
         let Ok(outputs) = outputs(alloc, guests) else {
             return Err(SessionFault::NoMemory);
         };
@@ -222,16 +227,7 @@ impl<A: Allocator + Copy> Session<A> {
         ensures as_many { length self.old.paused ≡ length self.old.slots }
         ensures waits { result.waits ≡ waits_at slot self.new }
     {
-        match self.waiting(slot) {
-            None => self.unmoved(slot, Response::Answered(Reply::BadSlot)),
-            Some(Some(_)) => self.unmoved(slot, Response::Busy),
-            Some(None) => {
-                let taken = self.board.begin_in_place(slot, what, self.budget);
-                let response = note(&mut self.paused[slot as usize], taken.turn);
-                let waits = self.waits(slot, taken.block_irq, taken.console_irq);
-                Turned { response, waits }
-            }
-        }
+        self.turn(slot, TurnKind::InPlace(what))
     }
 }
 
@@ -315,36 +311,9 @@ fn judge(guests: &[GuestSpec], image: &[u8], budget: Budget) -> Result<(), Sessi
     Ok(())
 }
 
-// The board of the guests' slots, with their further devices, over a copy of the image's bytes. Their memories are over
+// The board of the guests' slots, without their further devices, over a copy of the image's bytes. Their memories are over
 // bytes that a host lends, if it does.
 fn board_of<A: Allocator + Copy>(
-    alloc: A,
-    guests: &[GuestSpec],
-    lent: Option<Vec<Vec<u8, Lodged>, A>>,
-    image: &[u8],
-    cache: u32,
-    budget: Budget,
-) -> Result<Board<MemoryImage<A>, A>, SessionFault>
-    requires lent { IfSome lent (λ bytes. AreBytesOf (slots_of guests.now) (map vec_items bytes.items)) }
-    requires judged { IsJudged guests.now image.now budget }
-    ensures slots { IfNone lent (IfOk result (λ board.
-        board.slots ≡ plugged guests.now (map opened (slots_of guests.now)))) }
-    ensures lent_slots { IfSome lent (λ bytes. IfOk result (λ board.
-        board.slots ≡ plugged guests.now (made_over opened_over (slots_of guests.now) (map vec_items bytes.items)))) }
-    ensures image { IfOk result (λ board. disk_of board.image ≡ new_disk image.now) }
-    ensures accepted { OnOk result (IsAccepted (length image.now / 512) (slots_of guests.now) cache) }
-    ensures fault { IfErr result (λ why. IsRefusedFor guests.now image.now cache budget why) }
-    ensures bad_board { (fault : BoardFault) → fault ≢ BoardFault.NoMemory →
-        Refuses (length image.now / 512) (slots_of guests.now) cache fault →
-        IsErrAnd result (λ why. (why ≡ SessionFault.Board fault) ⊎ (why ≡ SessionFault.NoMemory)) }
-{
-    let mut board = bare_board_of(alloc, guests, lent, image, cache, budget)?;
-    plug_devices(&mut board, guests)?;
-    Ok(board)
-}
-
-// The same without further devices.
-fn bare_board_of<A: Allocator + Copy>(
     alloc: A,
     guests: &[GuestSpec],
     lent: Option<Vec<Vec<u8, Lodged>, A>>,

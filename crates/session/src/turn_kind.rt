@@ -4,7 +4,7 @@ ghost use Rattle.std.specs.Prelude.{◌≡◌};
 ghost use Rattle.session.specs.Pacing.{work_in};
 
 use crate::response::Response;
-use board::{EventKind, Pause, Work};
+use board::{EventKind, InPlace, Pause, Work};
 use std::alloc::{Allocator, Global};
 
 /// What a slot is asked to do in a turn.
@@ -12,6 +12,8 @@ use std::alloc::{Allocator, Global};
 pub(crate) enum TurnKind<'a, A: Allocator = Global> {
     /// An event is to begin.
     Begin(&'a EventKind<A>),
+    /// One whose bytes the caller has in a slice.
+    InPlace(InPlace<'a>),
     /// The service that is paused is to go on.
     Resume,
 }
@@ -24,7 +26,8 @@ impl<'a, A: Allocator> TurnKind<'a, A> {
     {
         match (self, paused) {
             (TurnKind::Begin(what), None) => Ok(Work::Begin(what)),
-            (TurnKind::Begin(_), Some(_)) => Err(Response::Busy),
+            (TurnKind::InPlace(what), None) => Ok(Work::InPlace(what)),
+            (TurnKind::Begin(_) | TurnKind::InPlace(_), Some(_)) => Err(Response::Busy),
             (TurnKind::Resume, None) => Err(Response::Idle),
             (TurnKind::Resume, Some(pause)) => Ok(Work::Resume(pause)),
         }

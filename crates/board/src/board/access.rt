@@ -2,7 +2,7 @@
 //!
 //! Nothing here takes memory, so nothing here can be refused for want of it.
 
-ghost use Rattle.std.specs.Prelude.{◌≡◌, ◌↔◌, ◌<◌, [], IsTrue, IsSome, IfSome, IfNone, IsSomeAnd, length, slice_set};
+ghost use Rattle.std.specs.Prelude.{◌≡◌, ◌↔◌, ◌<◌, [], IsTrue, IsSome, IfSome, IsSomeAnd, length, slice_set};
 ghost use Rattle.std.specs.Bool.{OnTrue, OnFalse};
 ghost use Rattle.std.specs.Borrow.{sem, u8, Array, Lends};
 ghost use Rattle.std.specs.List.{slice_get};
@@ -16,15 +16,12 @@ ghost use Rattle.board.specs.Lending.{with_slot_bits, with_slot_bytes};
 ghost use Rattle.board.specs.Machine.{register};
 ghost use Rattle.board.specs.contracts.board.Board.{the_row};
 ghost use Rattle.board.specs.Slot.{interrupt_words};
-ghost use Rattle.board.specs.World.{Answers, KeepsOthers, disturbed_of, extents_of, world_of};
+ghost use Rattle.board.specs.World.{Answers, disturbed_of, world_of};
 
 use crate::board::Board;
 use crate::event::SlotWindow;
 use crate::in_place::InPlace;
-use crate::pause::Turn;
-use crate::reply::Reply;
 use crate::slot::copy_out;
-use chain::Budget;
 use guest_memory::GuestMemory;
 use sector_cache::Image;
 use std::alloc::Allocator;
@@ -143,32 +140,5 @@ impl<I: Image, A: Allocator + Copy> Board<I, A> {
     {
         let found = self.slots.get(slot as usize)?;
         Some(found.slot().read_window(window, offset, width))
-    }
-
-    /// Types bytes to the slot's console, and answers how many were taken: the event of that input, for who has
-    /// the bytes in a slice. No memory is taken. There is no answer for a slot that isn't there.
-    pub fn input(&mut self, slot: u8, bytes: &[u8]) -> Option<usize>
-        ensures step { Tells (I.disk self.old.image) → IfSome result (λ taken.
-            Answers {A = A} (world_of I.disk self.old)
-            (record { slot = slot; what = EventKind.Input bytes.now }) (Reply.Took taken) [] []
-            (world_of I.disk self.new)) }
-        ensures there { IsSome result ↔ (slot < length self.old.slots) }
-        ensures missing { IfNone result (self.new ≡ self.old) }
-        ensures others { KeepsOthers slot self.old.slots self.new.slots }
-        ensures extents { extents_of self.new.slots ≡ extents_of self.old.slots }
-        ensures image { self.new.image ≡ self.old.image }
-        ensures disturbed { disturbed_of self.new.slots ≡ disturbed_of self.old.slots }
-    {
-        let Some(found) = self.slots.get_mut(slot as usize) else {
-            return None;
-        };
-        let turn = found.input(bytes, Budget::UNLIMITED);
-        let Turn::Answered(reply) = turn else {
-            unreachable!()
-        };
-        let Reply::Took(taken) = reply else {
-            unreachable!()
-        };
-        Some(taken)
     }
 }

@@ -3,11 +3,13 @@
 ghost use Rattle.std.specs.Prelude.{◌≡◌, ◌≢◌, ◌↔◌, ◌<◌, ◌≤◌, [], Some, length};
 ghost use Rattle.std.specs.List.{slice_get};
 ghost use Rattle.board.specs.Durable.{TouchesSlot};
+ghost use Rattle.board.specs.declared.in_place.InPlace.{InPlace};
 ghost use Rattle.board.specs.declared.pause.Turn.{Turn};
+ghost use Rattle.board.specs.declared.pause.Work.{Work};
 ghost use Rattle.board.specs.declared.reply.Reply.{Reply};
 ghost use Rattle.board.specs.Image.{Tells};
 ghost use Rattle.board.specs.InPlace.{event_in};
-ghost use Rattle.board.specs.Pausing.{Begins, Does, PausesByLimit, MayLackMemoryIn, TakesTurn, met_in};
+ghost use Rattle.board.specs.Pausing.{Does, PausesByLimit, MayLackMemoryIn, TakesTurn, met_in};
 ghost use Rattle.board.specs.Slot.{AreInterruptWords, BoardSlot, interrupt_words};
 ghost use Rattle.board.specs.World.{Answers, HoldsAt, IsMissed, KeepsOthers, NotesRefusal, StaysInExtents, disturbed_of, extents_of, world_of};
 ghost use Rattle.board.specs.Within.{DecidesSlot, DoesWithin};
@@ -65,7 +67,7 @@ impl<A: Allocator> Taken<A> {
 
 impl<I: Image, A: Allocator + Copy> Board<I, A> {
     /// A slot takes a turn, in which its service may pause where the budget is spent: an event begins, or a service that
-    /// paused goes on. What its console puts out is appended to `out`.
+    /// paused goes on. What its console puts out is appended to `out`; an event whose bytes are in a slice puts nothing out.
     #[inline(always)]
     pub fn turn<O: Outlet>(
         &mut self,
@@ -80,6 +82,7 @@ impl<I: Image, A: Allocator + Copy> Board<I, A> {
         ensures within { DecidesSlot I.disk (O.limit out.old) slot self.old self.new (λ limit found after.
             DoesWithin limit work.entry budget found after (O.bytes out.old) (O.bytes out.new) result.turn) }
         ensures limit { O.limit out.new ≡ O.limit out.old }
+        ensures silent { (what : InPlace) → work.entry ≡ Work.InPlace what → O.bytes out.new ≡ O.bytes out.old }
         ensures shown { (found : BoardSlot) → slice_get self.new.slots slot ≡ Some found →
             (result.block_irq, result.console_irq) ≡ interrupt_words found }
         ensures words { AreInterruptWords result.block_irq result.console_irq }
@@ -102,34 +105,7 @@ impl<I: Image, A: Allocator + Copy> Board<I, A> {
         Taken::after(turn, slot)
     }
 
-    /// Begins an event of the slot whose bytes are in a slice: `turn` for that event, which needn't be made. No memory is
-    /// taken.
-    #[inline(always)]
-    pub fn begin_in_place(&mut self, slot: u8, what: InPlace<'_>, budget: Budget) -> Taken<A>
-        ensures takes { Tells (I.disk self.old.image) → slot < length self.old.slots →
-            TakesTurn (Begins (event_in what.entry) budget) (world_of I.disk self.old) slot result.turn
-            result.block_irq result.console_irq [] [] (world_of I.disk self.new) }
-        ensures stays { StaysInExtents I.disk self.old self.new }
-        ensures touches { TouchesSlot I.moment I.may_leave I.left_since slot self.old self.new }
-        ensures noted { NotesRefusal I.disk slot (met_in result.turn) self.old self.new }
-        ensures shown { (found : BoardSlot) → slice_get self.new.slots slot ≡ Some found →
-            (result.block_irq, result.console_irq) ≡ interrupt_words found }
-        ensures words { AreInterruptWords result.block_irq result.console_irq }
-        ensures limited { PausesByLimit budget result.turn }
-        ensures answered { result.turn ≢ Turn.Answered Reply.NoMemory }
-        ensures bad_slot { (result.turn ≡ Turn.Answered Reply.BadSlot) ↔ (length self.old.slots ≤ slot) }
-        ensures missing { length self.old.slots ≤ slot →
-            IsMissed self.old self.new [] [] result.block_irq result.console_irq }
-        ensures others { KeepsOthers slot self.old.slots self.new.slots }
-    {
-        let Some(slot) = self.slots.get_mut(slot as usize) else {
-            return Taken::missing();
-        };
-        let turn = slot.begin_in_place(what, budget, &mut self.cache);
-        Taken::after(turn, slot)
-    }
-
-    /// The same to its end: the event's answer.
+    /// Does an event whose bytes are in a slice to its end: its answer. No memory is taken.
     pub fn do_in_place(&mut self, slot: u8, what: InPlace<'_>) -> Reply<A>
         ensures step { Tells (I.disk self.old.image) → Answers (world_of I.disk self.old)
             (record { slot = slot; what = event_in what.entry }) result [] [] (world_of I.disk self.new) }
@@ -137,11 +113,12 @@ impl<I: Image, A: Allocator + Copy> Board<I, A> {
         ensures stays { StaysInExtents I.disk self.old self.new }
         ensures touches { TouchesSlot I.moment I.may_leave I.left_since slot self.old self.new }
     {
+        let mut nothing: Vec<u8, A> = Vec::new(self.alloc);
         let Taken {
             turn,
             block_irq: _,
             console_irq: _,
-        } = self.begin_in_place(slot, what, Budget::UNLIMITED);
+        } = self.turn(slot, Work::InPlace(what), Budget::UNLIMITED, &mut nothing);
         match turn {
             Turn::Answered(reply) => reply,
             Turn::More(_) => unreachable!(),

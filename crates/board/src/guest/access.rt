@@ -93,17 +93,9 @@ impl<A: Allocator> Guest<A> {
 }
 
 impl<A: Allocator + Copy> Guest<A> {
-    /// Types to the console. The service may pause where the budget is spent.
-    #[inline(always)]
-    pub(crate) fn input(&mut self, bytes: &[u8], budget: Budget) -> Turn<A>
-        ensures { BeginsQuietly self.old (EventKind.Input bytes.now) budget self.new result }
-    {
-        self.slot.input(bytes, budget)
-    }
-
     /// Begins an event whose bytes are in a slice. A service that it asks for may pause where the budget is spent.
     #[inline(always)]
-    pub(crate) fn begin_in_place<I: Image>(
+    pub(super) fn begin_in_place<I: Image>(
         &mut self,
         what: InPlace<'_>,
         budget: Budget,
@@ -118,6 +110,7 @@ impl<A: Allocator + Copy> Guest<A> {
         ensures touches { TouchesExtent I.moment I.may_leave I.left_since (whole_extent self.old) cache.old cache.new }
         ensures limited { PausesByLimit budget result }
         ensures there { result ≢ Turn.Answered Reply.BadSlot }
+        ensures in_range { result ≢ Turn.Answered Reply.BadRange }
         ensures answered { result ≢ Turn.Answered Reply.NoMemory }
     {
         match self.begin_beside_image(what, budget) {

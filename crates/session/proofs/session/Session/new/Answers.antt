@@ -1,7 +1,9 @@
 -- A session is refused by the first fault, and one that isn't there lacked memory where there is none.
-use Rattle.std.proofs.Common.{length, ap, ◌∙◌}
+use Rattle.std.proofs.Common.{sym, subst, arith}
+use Rattle.std.proofs.lemmas.List.{length-map}
+use Rattle.session.specs.Plugging.{AreBare}
 use Rattle.session.proofs.Refusals.{handed_on, if_err, never_device, never_extent, never_outlet, never_spent, on_ok, told_device, told_extent, told_image, told_outlet, told_spent}
-use Rattle.session.proofs.Plugged.{bare_opened, length-plugged}
+use Rattle.session.proofs.Plugged.{bare_opened}
 use Rattle.session.proofs.session.Session.new.Goals as goal
 
 pub returns-in_err-judge-clause-fault : goal.returns-in_err-judge-clause-fault
@@ -40,9 +42,13 @@ returns-in_err-judge-clause-spent g c =
     c.in_err-judge.field-0.0 (handed_on c.from_residual.result c.in_err-judge.field-0.0
     c.from_residual.ensures.1) (c.in_err-judge.ensures.fault c.args.cache)
 
-pub of_board-requires : goal.of_board-requires
-of_board-requires g c =
-    ap length c.in_ok-board.ensures.slots ∙ length-plugged c.args.guests.now _ ∙ (bare_opened c.args.guests.now).many
+pub of_board-requires-clause-bare : goal.of_board-requires-clause-bare
+of_board-requires-clause-bare g c =
+    subst (AreBare c.args.guests.now) (sym c.in_ok-board.ensures.slots) (bare_opened c.args.guests.now)
+
+pub of_board-requires-clause-few : goal.of_board-requires-clause-few
+of_board-requires-clause-few g c =
+    omega (arith, c.in_ok-board.ensures.accepted.slots_good.few, length-map c.args.guests.now (λ guest. guest.slot))
 
 pub returns-clause-lasts : goal.returns-clause-lasts
 returns-clause-lasts g c = on_ok c.of_board.result _ c.in_ok-judge.ensures.good.4

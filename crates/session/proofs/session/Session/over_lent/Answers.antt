@@ -1,8 +1,10 @@
 -- A session is refused by the first fault, the lent bytes' before all others.
-use Rattle.std.proofs.Common.{inl, length, map, ap, ◌∙◌, refl}
+use Rattle.std.proofs.Common.{inl, map, refl, sym, subst, arith}
+use Rattle.std.proofs.lemmas.List.{length-map}
+use Rattle.session.specs.Plugging.{AreBare}
 use Rattle.std.specs.Vec.{vec_items}
 use Rattle.session.proofs.Refusals.{handed_on, if_err, is_err, judged_first, lent, lent_refused, on_ok, then_board, wanting}
-use Rattle.session.proofs.Plugged.{bare_over, length-plugged}
+use Rattle.session.proofs.Plugged.{bare_over}
 use Rattle.session.proofs.session.Session.over_lent.Goals as goal
 
 pub returns-in_err-judge-clause-fault : goal.returns-in_err-judge-clause-fault
@@ -25,10 +27,14 @@ returns-in_err-judge-clause-exact g c = λ why other refused.
     (lent c.args.guests.now c.deref.ensures.value (c.if-not-are_bytes_of.ensures.0 refl)) told why
     c.in_err-judge.ensures.bad (c.in_err-judge.ensures.fault c.args.cache) refused))
 
-pub of_board-requires : goal.of_board-requires
-of_board-requires g c =
-    ap length c.in_ok-board.ensures.lent_slots ∙ length-plugged c.args.guests.now _
-    ∙ (bare_over c.args.guests.now (map vec_items c.args.bytes.items)).many
+pub of_board-requires-clause-bare : goal.of_board-requires-clause-bare
+of_board-requires-clause-bare g c =
+    subst (AreBare c.args.guests.now) (sym c.in_ok-board.ensures.lent_slots)
+    (bare_over c.args.guests.now (map vec_items c.args.bytes.items))
+
+pub of_board-requires-clause-few : goal.of_board-requires-clause-few
+of_board-requires-clause-few g c =
+    omega (arith, c.in_ok-board.ensures.accepted.slots_good.few, length-map c.args.guests.now (λ guest. guest.slot))
 
 pub returns-clause-lasts : goal.returns-clause-lasts
 returns-clause-lasts g c = on_ok c.of_board.result _ c.in_ok-judge.ensures.good.4
