@@ -11,6 +11,6 @@ mod places;
 mod split;
 
 pub use laws::places_passed_since_the_first;
-pub use packed::packed_wants;
+pub use packed::{packed_wants, packed_wants_by};
 pub use places::is_passed;
 pub use split::split_wants;

@@ -5,15 +5,15 @@ use Rattle.suppression.proofs.EventPlace.{position_of-first, position_of-second}
 use Rattle.suppression.proofs.packed.event_place.Goals as goal
 
 pub returns-then-event-eq0-clause-place : goal.returns-then-event-eq0-clause-place
-returns-then-event-eq0-clause-place g c = record {
-  below = grind (arith, common_steps);
-  position = grind (arith, common_steps, position_of-second c.args.n (c.read_u16-event.result % 2 ^ 15));
-  wrap = grind (arith, common_steps);
+returns-then-event-eq0-clause-place c = λ m addr e. record {
+  below = grind (arith, common_steps, e);
+  position = grind (arith, common_steps, e, position_of-second c.args.n (c.args.event % 2 ^ 15));
+  wrap = grind (arith, common_steps, e);
 }
 
 pub returns-else-event-eq0-clause-place : goal.returns-else-event-eq0-clause-place
-returns-else-event-eq0-clause-place g c = record {
-  below = grind (arith, common_steps);
-  position = grind (arith, common_steps, position_of-first c.args.n (c.read_u16-event.result % 2 ^ 15));
-  wrap = grind (arith, common_steps);
+returns-else-event-eq0-clause-place c = λ m addr e. record {
+  below = grind (arith, common_steps, e);
+  position = grind (arith, common_steps, e, position_of-first c.args.n (c.args.event % 2 ^ 15));
+  wrap = grind (arith, common_steps, e);
 }
