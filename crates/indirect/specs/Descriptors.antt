@@ -22,6 +22,14 @@ indirect_flag = 4
 abbrev pub has_flag : ℕ → ℕ → Bool
 has_flag flags flag = not (bit_and flags flag == 0)
 
+-- the descriptor of these fields, which goes on at the next index if its flags have NEXT
+abbrev pub descriptor_of : ℕ → ℕ → ℕ → ℕ → Descriptor
+descriptor_of addr len flags next = record {
+  buffer = buffer_of addr len (has_flag flags write_flag);
+  indirect = has_flag flags indirect_flag;
+  next = if has_flag flags next_flag then Some next else None;
+}
+
 -- the descriptor at address a in the split layout: addr, len, flags, next
 abbrev pub split_descriptor : Memory → ℕ → Descriptor
 split_descriptor m a =

@@ -99,7 +99,7 @@ impl PackedDescriptor {
 }
 
 impl Descriptor {
-    ghost use Rattle.indirect.specs.Descriptors.{split_descriptor};
+    ghost use Rattle.indirect.specs.Descriptors.{descriptor_of, split_descriptor};
 
     /// The descriptor in the split layout whose 16 bytes stand at `addr` (2.7.5).
     #[inline(always)]
@@ -117,18 +117,21 @@ impl Descriptor {
         ensures { StandsIn bytes.now at (λ m a. result ≡ split_descriptor m a) }
     {
         let fields = Fields::of(bytes, at);
-        let flags = fields.third;
+        Descriptor::of_fields(fields.segment, fields.third, fields.last)
+    }
+
+    /// The descriptor of these fields: where its flags have NEXT, it goes on at `next`.
+    #[inline(always)]
+    pub fn of_fields(segment: Segment, flags: u16, next: u16) -> Descriptor
+        ensures { result ≡ descriptor_of segment.addr segment.len flags next }
+    {
         Descriptor {
             buffer: Buffer {
-                segment: fields.segment,
+                segment,
                 writable: flags & WRITE != 0,
             },
             indirect: flags & INDIRECT != 0,
-            next: if flags & NEXT != 0 {
-                Some(fields.last)
-            } else {
-                None
-            },
+            next: if flags & NEXT != 0 { Some(next) } else { None },
         }
     }
 }
