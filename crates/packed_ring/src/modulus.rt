@@ -4,7 +4,7 @@ ghost use Rattle.std.specs.Prelude.{◌≡◌, ◌<◌, ◌*◌, ◌%◌};
 
 /// A number modulo another, of which it is below the double.
 #[inline(always)]
-pub(crate) fn reduced(n: u16, modulus: u16) -> u16
+pub fn reduced(n: u16, modulus: u16) -> u16
     requires { n < 2 * modulus }
     ensures { result ≡ n % modulus }
 {

@@ -3,31 +3,24 @@
 ghost use Rattle.std.specs.Prelude.{◌≡◌, ◌+◌, ◌*◌, ◌<◌, ◌≤◌, ◌↔◌, if◌then◌else◌, IsTrue, IsSome, IfSome};
 ghost use Rattle.guest_memory.specs.Memory.{SameRange};
 ghost use Rattle.chain.specs.Setup.{IsUsable, new_ring};
-ghost use Rattle.packed_ring.specs.Ring.{IsQueueSize, LiesIn, areas_of, can_set_up, descriptor_addr, head_of, id_of, is_available, is_queue_size, next_taken, next_wrap, used_flags, used_head, with_used, wrap_counter};
+ghost use Rattle.packed_ring.specs.Ring.{IsQueueSize, LiesIn, areas_of, can_set_up, descriptor_addr, head_of, id_of, is_available, is_queue_size, next_taken, next_wrap, used_head, with_used, wrap_counter};
 ghost use Rattle.packed_ring.specs.Reached.{served_to};
 ghost use Rattle.packed_ring.specs.Kind.{IsAhead, IsTaken, entry_of, first_passed, packed_kind};
 
 mod reached;
 mod view;
 
+use crate::flags::{are_available, flags_of_used};
 use crate::modulus::reduced;
 use crate::walk::{Table, append_list};
 use chain::{Areas, Chain, Fault, RingState, Setup, Used, Virtqueue};
 use guest_memory::{GuestMemory, Ranged};
-use indirect::WRITE;
 use std::alloc::Allocator;
 use std::marker::Model;
 use suppression::packed_wants;
 
 /// The largest queue size.
 const MOST_DESCRIPTORS: u32 = 256;
-
-/// The driver has made the descriptor available, where the flag equals its wrap counter (VIRTQ_DESC_F_AVAIL,
-/// 2.8.1).
-const AVAIL: u16 = 1 << 7;
-
-/// The device has used the descriptor, where the flag equals its wrap counter (VIRTQ_DESC_F_USED).
-const USED: u16 = 1 << 15;
 
 /// A packed virtqueue of one guest. The addresses of its areas are the driver's; the guest's memory is handed
 /// to each call, and the areas lie in it.
@@ -169,8 +162,7 @@ impl PackedRing {
         let offset = 16 * u64::from(self.head());
         mem.fits(self.state.setup.desc, 16 * u64::from(self.state.setup.size));
         let flags = mem.read_u16(self.state.setup.desc + offset + 14);
-        let wrap = self.next_wrap();
-        (flags & AVAIL != 0) == wrap && (flags & USED != 0) != wrap
+        are_available(flags, self.next_wrap())
     }
 
     #[tactic(auto, using(guest_memory::proofs::Ranges::inside_part, guest_memory::proofs::Ranges::inside_same))]
@@ -308,15 +300,6 @@ impl Virtqueue for PackedRing {
         self.state.shut();
         wanted
     }
-}
-
-/// The flags of a used descriptor at a wrap counter (2.8.1, 2.8.3).
-fn flags_of_used(wrap_counter: bool, wrote: bool) -> u16
-    ensures { result ≡ used_flags (if wrap_counter then 1 else 0) wrote }
-{
-    let both = if wrap_counter { AVAIL | USED } else { 0 };
-    let write = if wrote { WRITE } else { 0 };
-    both | write
 }
 
 /// What the layout asks of the areas of a queue of so many descriptors.
