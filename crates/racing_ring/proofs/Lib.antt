@@ -1,5 +1,4 @@
 pub mod Unread
-pub mod Reading
 pub mod Seeing
 pub mod Lying
 pub mod Tables

@@ -262,12 +262,13 @@ hidden {races} {old} {mid} {new} {desc} {n} {h} {wrap} {count} {i} {id} {flags} 
       followed_none (memory old) old mid desc n h wrap count i buffers f first.0,
     )
 
-module _ (races : Bool) (old new : Sightings) (desc n h wrap count i : ℕ) (buffers : List Buffer) (d : Descriptor) (id : ℕ)
+module _ {races : Bool} {old new : Sightings} {desc n h wrap count i : ℕ} {buffers : List Buffer} {d : Descriptor} {id : ℕ}
     (below : h < n) (room : count < n) (here : i < n) (s : Shown races old new desc n h wrap count i buffers d id) where
   -- the descriptor is plain, has NEXT, and its buffer is admitted
-  pub followed_step : (j : ℕ) (after : List Buffer) → d.indirect ≡ false → d.next ≡ Some j → Admits (memory new) buffers d.buffer → after ≡ buffers ++ d.buffer ∷ []
+  pub followed_step : {j : ℕ} {after : List Buffer} → d.indirect ≡ false → d.next ≡ Some j
+      → Admits (memory new) buffers d.buffer → after ≡ buffers ++ d.buffer ∷ []
       → Followed (memory old) old new desc n h wrap (count + 1) j after
-  followed_step j after plain next admits pushed =
+  followed_step {j} {after} plain next admits pushed =
       let t = read_table s.source desc n in
       let r = s.reached in
       let a = admits_back (memory old) (memory new) buffers d.buffer (loads_range races old new s.loads) admits in
@@ -292,8 +293,8 @@ module _ (races : Bool) (old new : Sightings) (desc n h wrap count i : ℕ) (buf
       }
 
 -- the list ends at a descriptor, or has a fault there
-module _ (races : Bool) (old at new : Sightings) (negotiated : Bool) (desc n h wrap count i : ℕ) (buffers : List Buffer)
-    (d : Descriptor) (id : ℕ) (room : count < n) (here : i < n)
+module _ {races : Bool} {old at new : Sightings} (negotiated : Bool) {desc n h wrap count i : ℕ} {buffers : List Buffer}
+    {d : Descriptor} {id : ℕ} (room : count < n) (here : i < n)
     (s : Shown races old at desc n h wrap count i buffers d id) (later : Loads races at new) where
   same : SameRange (memory old) (memory new)
   same = loads_range races old new (loads_trans races old at new s.loads later)
@@ -308,10 +309,10 @@ module _ (races : Bool) (old at new : Sightings) (negotiated : Bool) (desc n h w
   entry = ap (λ (k : ℕ). entry_of k (count + 1)) s.named
 
   -- it is plain
-  pub listed_plain : (after : List Buffer) → d.indirect ≡ false → d.next ≡ None
+  pub listed_plain : {after : List Buffer} → d.indirect ≡ false → d.next ≡ None
       → Admits (memory new) buffers d.buffer → after ≡ buffers ++ d.buffer ∷ []
       → IsListed old new negotiated desc n h wrap after (entry_of id (count + 1))
-  listed_plain after plain ends a pushed = record {
+  listed_plain {after} plain ends a pushed = record {
     source = s.source;
     read = all_read;
     offers = record {
@@ -324,10 +325,10 @@ module _ (races : Bool) (old at new : Sightings) (negotiated : Bool) (desc n h w
   }
 
   -- it refers to a table
-  pub listed_table : (after : List Buffer) → d.indirect ≡ true
+  pub listed_table : {after : List Buffer} → d.indirect ≡ true
       → EndsInTable packed_tables negotiated (memory new) buffers count d after
       → IsListed old new negotiated desc n h wrap after (entry_of id (count + 1))
-  listed_table after indirect ends = record {
+  listed_table {after} indirect ends = record {
     source = s.source;
     read = all_read;
     offers = record {
@@ -340,9 +341,9 @@ module _ (races : Bool) (old at new : Sightings) (negotiated : Bool) (desc n h w
   }
 
   -- its buffer is refused
-  pub listed_refused : (fault : Fault) → d.indirect ≡ false → Refuses (memory new) buffers d.buffer fault
+  pub listed_refused : {fault : Fault} → d.indirect ≡ false → Refuses (memory new) buffers d.buffer fault
       → IsListFaulty old new negotiated desc n h wrap fault
-  listed_refused fault plain refused = record {
+  listed_refused {fault} plain refused = record {
     source = s.source;
     read = all_read;
     fails = list_refused packed_tables negotiated (memory new) (read_table s.source desc n) n h buffers count i d fault
@@ -350,10 +351,10 @@ module _ (races : Bool) (old at new : Sightings) (negotiated : Bool) (desc n h w
   }
 
   -- or its table is
-  pub listed_table_refused : (fault : Fault) → d.indirect ≡ true
+  pub listed_table_refused : {fault : Fault} → d.indirect ≡ true
       → TableRefused packed_tables negotiated (memory new) buffers count d fault
       → IsListFaulty old new negotiated desc n h wrap fault
-  listed_table_refused fault indirect refused = record {
+  listed_table_refused {fault} indirect refused = record {
     source = s.source;
     read = all_read;
     fails = list_table_refused packed_tables negotiated (memory new) (read_table s.source desc n) n h buffers count i d
@@ -361,10 +362,10 @@ module _ (races : Bool) (old at new : Sightings) (negotiated : Bool) (desc n h w
   }
 
 -- each descriptor of the ring was read, and the list goes on
-pub listed_full : (races : Bool) (old new : Sightings) (negotiated : Bool) (desc n h wrap count i : ℕ)
-    (buffers : List Buffer) → h < n → Loads races old new → count ≡ n
-    → Followed (memory old) old new desc n h wrap count i buffers → IsListFaulty old new negotiated desc n h wrap Loop
-listed_full races old new negotiated desc n h wrap count i buffers below loads full f = record {
+pub listed_full : {races : Bool} {old new : Sightings} (negotiated : Bool) {desc n h wrap count i : ℕ}
+    {buffers : List Buffer} → h < n → Loads races old new
+    → Followed (memory old) old new desc n h wrap count i buffers → count ≡ n → IsListFaulty old new negotiated desc n h wrap Loop
+listed_full {races} {old} {new} negotiated {desc} {n} {h} {wrap} {count} {i} {buffers} below loads f full = record {
   source = f.source;
   read = f.read (omega (arith, below, full));
   fails = list_full packed_tables negotiated (memory new) (read_table f.source desc n) n h buffers count i full

@@ -1,10 +1,7 @@
 -- A descriptor whose two words were read one after the other.
-use Rattle.std.proofs.Common.{◌≡◌, ◌∙◌, ℕ, ◌+◌, ◌%◌, ◌≤◌, Bool, true, false, Option, Some, None, refl, sym, arith}
-use Rattle.std.specs.Prelude.{bit_and, if◌then◌else◌}
-use Rattle.std.proofs.lemmas.Bool.Decides.{nat_tests}
+use Rattle.std.proofs.Common.{◌≡◌, ◌∙◌, ℕ, ◌+◌, ◌%◌, ◌≤◌, Bool, refl, sym, arith}
 use Rattle.guest_memory.specs.Memory.{num}
-use Rattle.chain.specs.Buffers.{buffer_of}
-use Rattle.indirect.specs.Descriptors.{has_flag, indirect_flag, next_flag, write_flag}
+use Rattle.indirect.specs.Descriptors.{descriptor_of}
 use Rattle.packed_ring.specs.Ring.{descriptor_addr, flags_of}
 use Rattle.shared_memory.specs.Sightings.{Sightings, Loads, memory}
 use Rattle.shared_memory.proofs.Sightings.{loads_trans}
@@ -71,64 +68,36 @@ turn_sooner begin mid new source sooner s = record {
   addr_is = s.addr_is;
 }
 
--- a flag of a word of flags
-pub flag_set : (flags flag : ℕ) → ¬ (bit_and flags flag ≡ 0) → has_flag flags flag ≡ true
-flag_set flags flag set = grind (arith, nat_tests, set)
-
-pub flag_clear : (flags flag : ℕ) → bit_and flags flag ≡ 0 → has_flag flags flag ≡ false
-flag_clear flags flag clear = grind (arith, nat_tests, clear)
-
--- a split descriptor of numbers that were read
-split_is : (source : Source) (a addr len flags next : ℕ) (t : Option ℕ) → addr ≡ num source.addr_in a 8
+-- a split descriptor of fields that were read
+split_is : (source : Source) (a addr len flags next : ℕ) → addr ≡ num source.addr_in a 8
     → len ≡ num source.flags_in (a + 8) 4 → flags ≡ num source.flags_in (a + 12) 2
-    → t ≡ (if has_flag flags next_flag then Some next else None) → next ≡ num source.flags_in (a + 14) 2
-    → record {
-      buffer = buffer_of addr len (has_flag flags write_flag);
-      indirect = has_flag flags indirect_flag;
-      next = t;
-    } ≡ read_split source a
-split_is source a addr len flags next t addr_is len_is flags_is t_is next_is =
-    rw (t_is, next_is, flags_is, len_is, addr_is) refl
+    → next ≡ num source.flags_in (a + 14) 2 → descriptor_of addr len flags next ≡ read_split source a
+split_is source a addr len flags next addr_is len_is flags_is next_is = rw (next_is, flags_is, len_is, addr_is) refl
 
-pub split_seen : {races : Bool} {old new : Sightings} {a addr len flags next : ℕ} (t : Option ℕ)
-    → AreFields races old new a addr len flags next → t ≡ (if has_flag flags next_flag then Some next else None)
-    → IsDescriptorSeen old.now new a (record {
-      buffer = buffer_of addr len (has_flag flags write_flag);
-      indirect = has_flag flags indirect_flag;
-      next = t;
-    })
-split_seen {races} {old} {new} {a} {addr} {len} {flags} {next} t f t_is = record {
+pub split_seen : {races : Bool} {old new : Sightings} {a addr len flags next : ℕ}
+    → AreFields races old new a addr len flags next
+    → IsDescriptorSeen old.now new a (descriptor_of addr len flags next)
+split_seen {races} {old} {new} {a} {addr} {len} {flags} {next} f = record {
   source = source_of f.between new;
   seen = seen_in_turn races old new a addr len flags next f;
-  is = split_is (source_of f.between new) a addr len flags next t f.addr_is f.len_is f.third_is t_is f.last_is;
+  is = split_is (source_of f.between new) a addr len flags next f.addr_is f.len_is f.third_is f.last_is;
 }
 
 -- and a packed one
-packed_is : (source : Source) (desc n i addr len flags : ℕ) (t : Option ℕ)
+packed_is : (source : Source) (desc n i addr len flags : ℕ)
     → addr ≡ num source.addr_in (descriptor_addr desc i) 8
     → len ≡ num source.flags_in (descriptor_addr desc i + 8) 4
     → flags ≡ flags_of source.flags_in (descriptor_addr desc i)
-    → t ≡ (if has_flag flags next_flag then Some ((i + 1) % n) else None)
-    → record {
-      buffer = buffer_of addr len (has_flag flags write_flag);
-      indirect = has_flag flags indirect_flag;
-      next = t;
-    } ≡ read_descriptor source desc n i
-packed_is source desc n i addr len flags t addr_is len_is flags_is t_is =
-    rw (t_is, flags_is, len_is, addr_is) refl
+    → descriptor_of addr len flags ((i + 1) % n) ≡ read_descriptor source desc n i
+packed_is source desc n i addr len flags addr_is len_is flags_is = rw (flags_is, len_is, addr_is) refl
 
-pub packed_copied : {races : Bool} {old new : Sightings} {desc n i addr len id flags : ℕ} (t : Option ℕ)
+pub packed_copied : {races : Bool} {old new : Sightings} {desc n i addr len id flags : ℕ}
     → AreFields races old new (descriptor_addr desc i) addr len id flags
-    → t ≡ (if has_flag flags next_flag then Some ((i + 1) % n) else None)
-    → IsCopied old new desc n i (record {
-      buffer = buffer_of addr len (has_flag flags write_flag);
-      indirect = has_flag flags indirect_flag;
-      next = t;
-    }) id flags
-packed_copied {races} {old} {new} {desc} {n} {i} {addr} {len} {id} {flags} t f t_is = record {
+    → IsCopied old new desc n i (descriptor_of addr len flags ((i + 1) % n)) id flags
+packed_copied {races} {old} {new} {desc} {n} {i} {addr} {len} {id} {flags} f = record {
   source = source_of f.between new;
   seen = seen_in_turn races old new (descriptor_addr desc i) addr len id flags f;
-  descriptor = packed_is (source_of f.between new) desc n i addr len flags t f.addr_is f.len_is f.last_is t_is;
+  descriptor = packed_is (source_of f.between new) desc n i addr len flags f.addr_is f.len_is f.last_is;
   id_is = f.third_is;
   flags_is = f.last_is;
 }

@@ -1,15 +1,16 @@
 -- A walk through one table is one through another that agrees on its members, and in another memory of its range.
-use Rattle.std.proofs.Common.{Bool, ◌≡◌, ◌∙◌, ℕ, List, [], ◌∷◌, ◌++◌, refl, sym, ap, subst}
-use Rattle.guest_memory.specs.Memory.{Memory, SameRange}
+use Rattle.std.proofs.Common.{Bool, ◌≡◌, ◌∙◌, ℕ, ◌*◌, List, [], ◌∷◌, ◌++◌, refl, sym, ap, subst}
+use Rattle.guest_memory.specs.Memory.{Memory, Inside, SameRange, part_of}
 use Rattle.guest_memory.proofs.Ranges.{inside_same}
 use Rattle.chain.specs.declared.segment.Buffer.{Buffer}
 use Rattle.chain.specs.declared.fault.Fault.{Fault}
-use Rattle.chain.specs.declared.fault.Fault.TheVariants.{Range, TooMany, TooLong}
-use Rattle.chain.specs.Buffers.{Admits, AdmitsAll, Refuses}
+use Rattle.chain.specs.Buffers.{Admits, AdmitsAll}
 use Rattle.indirect.specs.declared.descriptor.Descriptor.{Descriptor}
+use Rattle.indirect.specs.Descriptors.{StandsIn, split_descriptor, split_table}
 use Rattle.indirect.specs.Lists.{TableFaulty, packed_tables, split_tables}
 use Rattle.indirect.specs.Tables.{IsNoTable, IsTable, TableFails}
 use Rattle.indirect.specs.Walks.{Follows, Leads, first_of, buffers_of, Reached}
+use Rattle.indirect.proofs.Entries.{entry_is}
 use Rattle.shared_memory.proofs.Sightings.{same_back}
 
 -- two tables agree on these indices
@@ -75,17 +76,9 @@ reached_range m m' before t n h count i buffers s r = record {
   named = r.named;
 }
 
--- what is admitted or refused in a memory is so in one of the same addresses
+-- and back
 pub admits_back : (m m' : Memory) (bs : List Buffer) (b : Buffer) → SameRange m m' → Admits m' bs b → Admits m bs b
 admits_back m m' bs b s = admits_range m' m bs b (same_back m m' s)
-
-pub refuses_back : (m m' : Memory) (bs : List Buffer) (b : Buffer) (fault : Fault) → SameRange m m'
-    → Refuses m' bs b fault → Refuses m bs b fault
-refuses_back m m' bs b Range s r = λ h. r (inside_same m m' b.segment.addr b.segment.len s h)
-refuses_back m m' bs b TooMany s r = (inside_same m' m b.segment.addr b.segment.len (same_back m m' s) r.0, r.1)
-refuses_back m m' bs b TooLong s r =
-    (inside_same m' m b.segment.addr b.segment.len (same_back m m' s) r.0, r.1, r.2)
-refuses_back m m' bs b _ s r = absurd r
 
 -- ---- a range that is no table
 
@@ -101,3 +94,9 @@ module _ (negotiated : Bool) (m : Memory) (before : List Buffer) (d : Descriptor
 
   pub no_packed_table : TableFaulty packed_tables negotiated m before d fault
   no_packed_table = record { left = before; table = no_table _ }
+
+-- a descriptor that was read of a copy of a table is the table's
+pub entry_stands : (m : Memory) (addr len at i : ℕ) (bytes : List ℕ) (d : Descriptor) → Inside m addr len
+    → bytes ≡ part_of m addr len → at ≡ 16 * i → StandsIn bytes at (λ m a. d ≡ split_descriptor m a)
+    → d ≡ split_table m addr i
+entry_stands m addr len at i bytes d inside are place stands = entry_is m addr at i d (stands m addr len inside are) place

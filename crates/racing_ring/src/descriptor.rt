@@ -7,14 +7,14 @@ ghost use Rattle.guest_memory.specs.Memory.{Inside, num};
 ghost use Rattle.shared_memory.specs.Sightings.{Loads, memory};
 ghost use Rattle.racing_ring.specs.Source.{AreFields};
 
+use chain::Segment;
 use shared_memory::Shared;
 
 /// The fields of a descriptor, in the order of both layouts. The last two are flags and next of a split one (2.7.5), id and
 /// flags of a packed one (2.8.13).
 #[derive(Clone, Copy)]
 pub(crate) struct Fields {
-    pub addr: u64,
-    pub len: u32,
+    pub segment: Segment,
     pub third: u16,
     pub last: u16,
 }
@@ -32,13 +32,15 @@ struct SecondWord {
 #[inline(always)]
 pub(crate) fn load_fields<M: Shared>(mem: &mut M, addr: u64) -> Fields
     requires { Inside (memory (M.sightings mem.old)) addr 16 }
-    ensures fields { AreFields M.races (M.sightings mem.old) (M.sightings mem.new) addr result.addr result.len result.third result.last }
+    ensures fields { AreFields M.races (M.sightings mem.old) (M.sightings mem.new) addr result.segment.addr result.segment.len result.third result.last }
 {
     let second = load_second(mem, addr);
     let first = load_first(mem, addr);
     Fields {
-        addr: first,
-        len: second.len,
+        segment: Segment {
+            addr: first,
+            len: second.len,
+        },
         third: second.third,
         last: second.last,
     }

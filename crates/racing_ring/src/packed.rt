@@ -11,7 +11,6 @@ mod table;
 mod used;
 mod walk;
 
-use crate::packed::closing::packed_wants;
 use crate::packed::walk::append_list;
 use crate::queue::RacingQueue;
 use crate::room::Room;
@@ -22,7 +21,7 @@ pub use laws::{
     a_list_that_is_published_meanwhile_is_taken_as_it_stands,
     a_packed_ring_that_stands_still_is_served_as_it_is,
 };
-use packed_ring::Token;
+use packed_ring::{Token, reduced};
 use shared_memory::Shared;
 use std::marker::Model;
 
@@ -86,7 +85,7 @@ impl RacingPackedRing {
         ensures value { result ≡ next_taken self.now }
         ensures below { result < 2 * self.now.setup.size }
     {
-        (self.state.place + self.state.ahead) % (2 * self.size())
+        reduced(self.state.place + self.state.ahead, 2 * self.size())
     }
 
     // The position of the next list's place.
@@ -94,7 +93,7 @@ impl RacingPackedRing {
         ensures value { result ≡ head_of self.now }
         ensures below { result < self.now.setup.size }
     {
-        self.next_taken() % self.size()
+        reduced(self.next_taken(), self.size())
     }
 
     // The wrap counter of the next list's place, as whether it is 1 (2.8.1).
@@ -194,14 +193,7 @@ impl RacingQueue for RacingPackedRing {
     #[tactic(auto, using(crate::proofs::Lying::packed_lies_loads))]
     fn close<M: Shared>(&mut self, mem: &mut M) -> bool {
         self.put_closing(mem);
-        let wanted = packed_wants(
-            mem,
-            self.state.setup.driver,
-            self.size(),
-            self.state.setup.event_idx,
-            self.first_passed(),
-            self.state.used_count,
-        );
+        let wanted = self.wants(mem);
         self.state.shut();
         wanted
     }

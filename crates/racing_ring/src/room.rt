@@ -6,8 +6,7 @@ ghost use Rattle.shared_memory.specs.Sightings.{Loads, memory};
 ghost use Rattle.racing_ring.specs.Table.{IsDescriptorSeen, IsLookedUp};
 
 use crate::descriptor::load_fields;
-use chain::{Buffer, Segment};
-use indirect::{Descriptor, INDIRECT, NEXT, WRITE};
+use indirect::Descriptor;
 use shared_memory::Shared;
 use std::marker::Model;
 
@@ -107,20 +106,5 @@ fn read<M: Shared>(mem: &mut M, addr: u64) -> Descriptor
     ensures loads { Loads M.races (M.sightings mem.old) (M.sightings mem.new) }
 {
     let fields = load_fields(mem, addr);
-    let flags = fields.third;
-    Descriptor {
-        buffer: Buffer {
-            segment: Segment {
-                addr: fields.addr,
-                len: fields.len,
-            },
-            writable: flags & WRITE != 0,
-        },
-        indirect: flags & INDIRECT != 0,
-        next: if flags & NEXT != 0 {
-            Some(fields.last)
-        } else {
-            None
-        },
-    }
+    Descriptor::of_fields(fields.segment, fields.third, fields.last)
 }

@@ -7,9 +7,8 @@ ghost use Rattle.shared_memory.specs.Sightings.{memory};
 ghost use Rattle.racing_ring.specs.Packed.{IsGiven, used_word};
 
 use crate::packed::RacingPackedRing;
-use crate::packed::walk::{AVAIL, USED};
 use chain::Used;
-use indirect::WRITE;
+use packed_ring::{flags_of_used, reduced};
 use shared_memory::Shared;
 
 impl RacingPackedRing {
@@ -43,7 +42,7 @@ impl RacingPackedRing {
         ensures value { result ≡ used_head self.now }
         ensures below { result < self.now.setup.size }
     {
-        self.state.place % self.size()
+        reduced(self.state.place, self.size())
     }
 
     /// The place so many descriptors behind the ring's.
@@ -52,20 +51,14 @@ impl RacingPackedRing {
         ensures value { result ≡ place_behind self.now length }
         ensures below { result < 2 * self.now.setup.size }
     {
-        (self.state.place + length) % (2 * self.size())
+        reduced(self.state.place + length, 2 * self.size())
     }
 
     /// The flags of the used descriptor at the wrap counter of the ring's place (2.8.1, 2.8.3).
     fn used_flags(&self, wrote: bool) -> u16
         ensures { result ≡ used_flags (wrap_counter self.now) wrote }
     {
-        let both = if self.state.place < self.size() {
-            AVAIL | USED
-        } else {
-            0
-        };
-        let write = if wrote { WRITE } else { 0 };
-        both | write
+        flags_of_used(self.state.place < self.size(), wrote)
     }
 }
 

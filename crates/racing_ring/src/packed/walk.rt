@@ -10,15 +10,10 @@ use crate::descriptor::load_fields;
 use crate::packed::table::append_table;
 use crate::table::push;
 use crate::walk::Table;
-use chain::{Buffer, Chain, Fault, Segment};
-use indirect::{Descriptor, INDIRECT, NEXT, WRITE};
+use chain::{Chain, Fault};
+use indirect::Descriptor;
+use packed_ring::{are_available, reduced};
 use shared_memory::Shared;
-
-/// The driver has made the descriptor available, where the flag equals its wrap counter (VIRTQ_DESC_F_AVAIL, 2.8.1).
-pub(crate) const AVAIL: u16 = 1 << 7;
-
-/// The device has used the descriptor, where the flag equals its wrap counter (VIRTQ_DESC_F_USED).
-pub(crate) const USED: u16 = 1 << 15;
 
 /// Where a list of descriptors ends: how many come before its last one, and the id of that.
 #[derive(Clone, Copy)]
@@ -94,25 +89,11 @@ fn copy_at<M: Shared>(mem: &mut M, table: Table, index: u16) -> Copied
     // So no address in the ring passes 2^64.
     mem.fits(table.addr, 16 * u64::from(table.size));
     let fields = load_fields(mem, table.addr + 16 * u64::from(index));
-    let flags = fields.last;
+    let next = reduced(index + 1, table.size);
     Copied {
-        descriptor: Descriptor {
-            buffer: Buffer {
-                segment: Segment {
-                    addr: fields.addr,
-                    len: fields.len,
-                },
-                writable: flags & WRITE != 0,
-            },
-            indirect: flags & INDIRECT != 0,
-            next: if flags & NEXT != 0 {
-                Some((index + 1) % table.size)
-            } else {
-                None
-            },
-        },
+        descriptor: Descriptor::of_fields(fields.segment, fields.last, next),
         id: fields.third,
-        flags,
+        flags: fields.last,
     }
 }
 
@@ -120,12 +101,5 @@ fn copy_at<M: Shared>(mem: &mut M, table: Table, index: u16) -> Copied
 fn is_withheld(count: u16, flags: u16, wrap: bool) -> bool
     ensures { result ≡ (count == 0 && not (are_available flags (if wrap then 1 else 0))) }
 {
-    count == 0 && !is_available(flags, wrap)
-}
-
-/// Whether flags are those of an available descriptor (2.8.1).
-fn is_available(flags: u16, wrap: bool) -> bool
-    ensures { result ≡ are_available flags (if wrap then 1 else 0) }
-{
-    (flags & AVAIL != 0) == wrap && (flags & USED != 0) != wrap
+    count == 0 && !are_available(flags, wrap)
 }

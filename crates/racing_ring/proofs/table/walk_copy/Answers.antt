@@ -2,7 +2,7 @@ use Rattle.std.proofs.Common.{◌/◌, arith}
 use Rattle.shared_memory.specs.Sightings.{memory}
 use Rattle.indirect.specs.Descriptors.{split_table}
 use Rattle.indirect.proofs.Walking.{reached_step, resolves_step}
-use Rattle.racing_ring.proofs.Reading.{entry_stands}
+use Rattle.racing_ring.proofs.Tables.{entry_stands}
 use Rattle.racing_ring.proofs.table.walk_copy.Goals as goal
 
 pub returns-in-None-clause-ok : goal.returns-in-None-clause-ok

@@ -20,10 +20,7 @@ loop-count-init g c =
 pub returns-clause-fault : goal.returns-clause-fault
 returns-clause-fault g c =
     let i = c.loop-count.invariant in
-    listed_full g.M.Shared.races (g.M.Shared.sightings c.args.mem.now)
-    (g.M.Shared.sightings c.loop-count.mem) c.args.table.indirect c.args.table.addr c.args.table.size c.args.first
-    (if c.args.wrap then 1 else 0) c.loop-count.count c.loop-count.index c.loop-count.chain c.requires.first i.loads
-    (omega arith) i.list
+    listed_full c.args.table.indirect c.requires.first i.loads i.list (omega arith)
 
 pub returns-then-is_withheld-clause-withheld : goal.returns-then-is_withheld-clause-withheld
 returns-then-is_withheld-clause-withheld g c =
@@ -42,9 +39,8 @@ returns-in_err-append_table-clause-fault g c =
     let i = c.loop-count.invariant in
     let s = shown c.requires.first c.loop-count-test.true i.loads c.copy_at-copied.ensures.loads i.list
     c.copy_at-copied.ensures.copied c.is_withheld.ensures c.if-is_withheld.false in
-    let fails = listed_table_refused g.M.Shared.races _ (g.M.Shared.sightings c.copy_at-copied.new.mem)
-    (g.M.Shared.sightings c.append_table.new.mem) c.args.table.indirect _ _ _ _ _ _ _ _ _ c.loop-count-test.true i.below s c.append_table.ensures.loads
-    _ c.if-descriptor.true c.in_err-append_table.ensures.fault in
+    let fails = listed_table_refused c.args.table.indirect c.loop-count-test.true i.below s c.append_table.ensures.loads
+    c.if-descriptor.true c.in_err-append_table.ensures.fault in
     let p = err_from_is_err_and c.from_residual.result c.from_residual.ensures.1 in
     rw (p.1, p.2) fails
 
@@ -53,17 +49,16 @@ returns-then-descriptor-clause-listed g c =
     let i = c.loop-count.invariant in
     let s = shown c.requires.first c.loop-count-test.true i.loads c.copy_at-copied.ensures.loads i.list
     c.copy_at-copied.ensures.copied c.is_withheld.ensures c.if-is_withheld.false in
-    listed_table g.M.Shared.races _ _ _ c.args.table.indirect _ _ _ _ _ _ _ _ _ c.loop-count-test.true i.below s c.append_table.ensures.loads
-    c.append_table.new.chain c.if-descriptor.true
-    c.in_ok-append_table.ensures.ok
+    listed_table c.args.table.indirect c.loop-count-test.true i.below s c.append_table.ensures.loads
+    c.if-descriptor.true c.in_ok-append_table.ensures.ok
 
 pub returns-in_err-push-clause-fault : goal.returns-in_err-push-clause-fault
 returns-in_err-push-clause-fault g c =
     let i = c.loop-count.invariant in
     let s = shown c.requires.first c.loop-count-test.true i.loads c.copy_at-copied.ensures.loads i.list
     c.copy_at-copied.ensures.copied c.is_withheld.ensures c.if-is_withheld.false in
-    let fails = listed_refused _ _ _ _ c.args.table.indirect _ _ _ _ _ _ _ _ _ c.loop-count-test.true i.below s (loads_none _ _) _ c.if-descriptor.false
-    c.in_err-push.ensures.fault in
+    let fails = listed_refused c.args.table.indirect c.loop-count-test.true i.below s (loads_none _ _)
+    c.if-descriptor.false c.in_err-push.ensures.fault in
     let p = err_from_is_err_and c.from_residual-in_err-push.result c.from_residual-in_err-push.ensures.1 in
     rw (p.1, p.2) fails
 
@@ -72,17 +67,16 @@ returns-in-None-clause-listed g c =
     let i = c.loop-count.invariant in
     let s = shown c.requires.first c.loop-count-test.true i.loads c.copy_at-copied.ensures.loads i.list
     c.copy_at-copied.ensures.copied c.is_withheld.ensures c.if-is_withheld.false in
-    listed_plain _ _ _ _ c.args.table.indirect _ _ _ _ _ _ _ _ _ c.loop-count-test.true i.below s (loads_none _ _) c.push.new.chain c.if-descriptor.false c.in-None.is c.in_ok-push.ensures.ok
-    c.in_ok-push.ensures.pushed
+    listed_plain c.args.table.indirect c.loop-count-test.true i.below s (loads_none _ _)
+    c.if-descriptor.false c.in-None.is c.in_ok-push.ensures.ok c.in_ok-push.ensures.pushed
 
 pub loop-count-preserved : goal.loop-count-preserved
 loop-count-preserved g c =
     let i = c.loop-count.invariant in
     let s = shown c.requires.first c.loop-count-test.true i.loads c.copy_at-copied.ensures.loads i.list
     c.copy_at-copied.ensures.copied c.is_withheld.ensures c.if-is_withheld.false in
-    let list = followed_step _ _ _ _ _ _ _ _ _ _ _ _ c.requires.first c.loop-count-test.true i.below s
-    c.in-Some.next c.push.new.chain c.if-descriptor.false c.in-Some.is
-    c.in_ok-push.ensures.ok c.in_ok-push.ensures.pushed in
+    let list = followed_step c.requires.first c.loop-count-test.true i.below s
+    c.if-descriptor.false c.in-Some.is c.in_ok-push.ensures.ok c.in_ok-push.ensures.pushed in
     record {
       loads = s.loads;
       area = inside_loads _ _ _ c.args.table.addr _ c.copy_at-copied.ensures.loads i.area;
