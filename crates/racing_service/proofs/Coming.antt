@@ -35,18 +35,6 @@ module _ {Ring State : Type 0} (kind : RacingKind Ring) (device : Device State) 
     pub idle : some ≡ false → b ≡ a
     pub busy : some ≡ true → 0 < length between
 
-  pub in_round_begins : (a : Standing Ring State) → IsInRound a a false
-  in_round_begins a = record { between = []; serves = refl; idle = λ e. refl; busy = λ e. cc }
-
-  pub in_round_goes_on : (a b c : Standing Ring State) (some : Bool) → IsInRound a b some
-      → ServesOne kind device races b c → IsInRound a c true
-  in_round_goes_on a b c some p q = record {
-    between = p.between ++ c ∷ [];
-    serves = some_push a b c p.between p.serves q;
-    idle = λ e. cc;
-    busy = λ e. omega (arith, length_push p.between c);
-  }
-
   -- where some were served, there is a first one
   any_served : (between : List (Standing Ring State)) (a b c : Standing Ring State) → 0 < length between
       → ServesSome kind device races a between b → FindsNone kind device races b c → ServesAny kind device races a c
@@ -68,124 +56,122 @@ module _ {Ring State : Type 0} (kind : RacingKind Ring) (device : Device State) 
       → OnlyLoads kind device races (standing_at old ring s left) (standing_at new last s left)
   only old new ring last s left loads = record { loads = loads; state = refl; left = refl }
 
-  -- One more chain is taken, served and given back.
-  pub one_more : (first : Standing Ring State) (some : Bool) (old taken served new : Sightings)
-      (ring same past : Ring) (s t : State) (left left' : Budget) (buffers : List Buffer) (entry : Entry)
-      (len : ℕ) (any : Bool) → IsInRound first (standing_at old ring s left) some
-      → device.takes s ≡ true → ¬ IsSpent left → left' ≡ less_chain left buffers
-      → Loads races old taken → kind.IsTold old taken ring true → kind.IsOffered old taken ring buffers entry → same ≡ ring
-      → DoesRaced device races taken served buffers s t len any → kind.IsGiven races served new same entry len any
-      → past ≡ kind.still.past same entry → IsInRound first (standing_at new past t left') true
-  one_more first some old taken served new ring same past s t left left' buffers entry len any p
-      takes within spends loads told offered unchanged does given passes =
-      let one : ServesOne kind device races (standing_at old ring s left) (standing_at new past t left') = record {
-        taken = taken;
-        served = served;
-        buffers = buffers;
-        entry = entry;
-        len = len;
-        any = any;
-        takes = takes;
-        within = within;
-        loads = loads;
-        told = told;
-        offered = offered;
-        does = does;
-        given = rw unchanged at given;
-        past = rw unchanged at passes;
-        left = spends;
-      } in
-      in_round_goes_on first (standing_at old ring s left) (standing_at new past t left') some p one
-
-  -- no chain was taken, or none was on offer
-  pub unwanted : (first : Standing Ring State) (some : Bool) (old : Sightings) (ring : Ring) (s : State) (left : Budget)
-      (stop : Stop) → stop ≡ (if some then Dry else Idle) → IsInRound first (standing_at old ring s left) some
-      → device.takes s ≡ false → ServesAs kind device races stop first (standing_at old ring s left)
-  unwanted first some old ring s left stop is p none =
-      let here = standing_at old ring s left in
-      runs_out first here here some stop is p (record {
-        only = only old old ring ring s left (loads_none races old);
-        none = λ takes. cc;
-        ring = refl;
-      })
-
-  pub not_offered : (first : Standing Ring State) (some : Bool) (old new : Sightings) (ring same : Ring) (s : State)
-      (left : Budget) (stop : Stop) → stop ≡ (if some then Dry else Idle)
-      → IsInRound first (standing_at old ring s left) some → Loads races old new
-      → kind.IsTold old new ring false → same ≡ ring
-      → ServesAs kind device races stop first (standing_at new same s left)
-  not_offered first some old new ring same s left stop stops p loads told unchanged =
-      runs_out first (standing_at old ring s left) (standing_at new same s left) some stop stops p (record {
-        only = only old new ring same s left loads;
-        none = λ takes. told;
-        ring = unchanged;
-      })
-
-  -- the chain on offer has a fault
-  pub broken : (first : Standing Ring State) (some : Bool) (old new : Sightings) (ring stopped : Ring) (s : State)
-      (left : Budget) (fault : Fault) → IsInRound first (standing_at old ring s left) some
-      → device.takes s ≡ true → Loads races old new → kind.IsFaulty old new ring fault → stopped ≡ kind.still.stopped ring
-      → ServesAs kind device races (Broken fault) first (standing_at new stopped s left)
-  broken first some old new ring stopped s left fault p takes loads faulty stops = record {
-    between = p.between;
-    at = standing_at old ring s left;
-    serves = p.serves;
-    halts = record {
-      only = only old new ring stopped s left loads;
-      takes = takes;
-      faulty = faulty;
-      ring = stops;
-    };
-  }
-
-  -- nothing is left of the budget
-  pub paused : (first : Standing Ring State) (some : Bool) (old new : Sightings) (ring same : Ring) (s : State)
-      (left : Budget) (buffers : List Buffer) (entry : Entry) → IsInRound first (standing_at old ring s left) some
-      → device.takes s ≡ true → IsSpent left → Loads races old new → kind.IsTold old new ring true
-      → kind.IsOffered old new ring buffers entry → same ≡ ring
-      → ServesAs kind device races Paused first (standing_at new same s left)
-  paused first some old new ring same s left buffers entry p takes spent loads told offered unchanged = record {
-    between = p.between;
-    at = standing_at old ring s left;
-    serves = p.serves;
-    halts = record {
-      only = only old new ring same s left loads;
-      takes = takes;
-      spent = spent;
-      told = told;
-      buffers = buffers;
-      entry = entry;
-      offered = offered;
-      ring = unchanged;
-    };
-  }
-
-  -- the device leaves the chain on offer
-  pub left_there : {E : Type 0} (first : Standing Ring State) (some : Bool) (old taken new : Sightings)
-      (ring same : Ring) (s t : State) (left left' : Budget) (buffers : List Buffer) (entry : Entry)
-      (Refuses : State → List ℕ → List Buffer → E → Type 0) (why : E) → IsInRound first (standing_at old ring s left) some
-      → device.takes s ≡ true → ¬ IsSpent left → left' ≡ less_chain left buffers → Loads races old taken
-      → kind.IsTold old taken ring true → kind.IsOffered old taken ring buffers entry → same ≡ ring
-      → RefusesRaced Refuses races taken new buffers s why → t ≡ s
-      → ServesUpTo kind device races Refuses buffers entry why first (standing_at new same t left')
-  left_there first some old taken new ring same s t left left' buffers entry Refuses why p takes within spends
-      loads told offered unchanged refuses kept = record {
-        between = p.between;
-        at = standing_at old ring s left;
-        serves = p.serves;
-        leaves = record {
+  module _ (first : Standing Ring State) (some : Bool) (old : Sightings) (ring : Ring) (s : State) (left : Budget)
+      (p : IsInRound first (standing_at old ring s left) some) where
+    -- One more chain is taken, served and given back.
+    pub one_more : (taken served new : Sightings) (same past : Ring) (t : State) (left' : Budget) (buffers : List Buffer)
+        (entry : Entry) (len : ℕ) (any : Bool) → device.takes s ≡ true → ¬ IsSpent left → left' ≡ less_chain left buffers
+        → Loads races old taken → kind.IsTold old taken ring true → kind.IsOffered old taken ring buffers entry → same ≡ ring
+        → DoesRaced device races taken served buffers s t len any → kind.IsGiven races served new same entry len any
+        → past ≡ kind.still.past same entry → IsInRound first (standing_at new past t left') true
+    one_more taken served new same past t left' buffers entry len any takes within spends loads told offered unchanged
+        does given passes =
+        let next : Standing Ring State = standing_at new past t left' in
+        let one : ServesOne kind device races (standing_at old ring s left) next = record {
           taken = taken;
+          served = served;
+          buffers = buffers;
+          entry = entry;
+          len = len;
+          any = any;
           takes = takes;
           within = within;
           loads = loads;
           told = told;
           offered = offered;
-          refuses = refuses;
-          ring = unchanged;
-          state = kept;
+          does = does;
+          given = rw unchanged at given;
+          past = rw unchanged at passes;
           left = spends;
-        };
-      }
+        } in record {
+          between = p.between ++ next ∷ [];
+          serves = some_push first (standing_at old ring s left) next p.between p.serves one;
+          idle = λ e. cc;
+          busy = λ e. omega (arith, length_push p.between next);
+        }
+
+    -- no chain was taken, or none was on offer
+    pub unwanted : (stop : Stop) → stop ≡ (if some then Dry else Idle) → device.takes s ≡ false
+        → ServesAs kind device races stop first (standing_at old ring s left)
+    unwanted stop is none =
+        let here = standing_at old ring s left in
+        runs_out first here here some stop is p (record {
+          only = only old old ring ring s left (loads_none races old);
+          none = λ takes. cc;
+          ring = refl;
+        })
+
+    pub not_offered : (new : Sightings) (same : Ring) (stop : Stop) → stop ≡ (if some then Dry else Idle)
+        → Loads races old new → kind.IsTold old new ring false → same ≡ ring
+        → ServesAs kind device races stop first (standing_at new same s left)
+    not_offered new same stop is loads told unchanged =
+        runs_out first (standing_at old ring s left) (standing_at new same s left) some stop is p (record {
+          only = only old new ring same s left loads;
+          none = λ takes. told;
+          ring = unchanged;
+        })
+
+    -- the chain on offer has a fault
+    pub broken : (new : Sightings) (stopped : Ring) (fault : Fault) → device.takes s ≡ true → Loads races old new
+        → kind.IsFaulty old new ring fault → stopped ≡ kind.still.stopped ring
+        → ServesAs kind device races (Broken fault) first (standing_at new stopped s left)
+    broken new stopped fault takes loads faulty stops = record {
+      between = p.between;
+      at = standing_at old ring s left;
+      serves = p.serves;
+      halts = record {
+        only = only old new ring stopped s left loads;
+        takes = takes;
+        faulty = faulty;
+        ring = stops;
+      };
+    }
+
+    -- nothing is left of the budget
+    pub paused : (new : Sightings) (same : Ring) (buffers : List Buffer) (entry : Entry) → device.takes s ≡ true
+        → IsSpent left → Loads races old new → kind.IsTold old new ring true → kind.IsOffered old new ring buffers entry
+        → same ≡ ring → ServesAs kind device races Paused first (standing_at new same s left)
+    paused new same buffers entry takes spent loads told offered unchanged = record {
+      between = p.between;
+      at = standing_at old ring s left;
+      serves = p.serves;
+      halts = record {
+        only = only old new ring same s left loads;
+        takes = takes;
+        spent = spent;
+        told = told;
+        buffers = buffers;
+        entry = entry;
+        offered = offered;
+        ring = unchanged;
+      };
+    }
+
+    -- the device leaves the chain on offer
+    pub left_there : {E : Type 0} (taken new : Sightings) (same : Ring) (t : State) (left' : Budget) (buffers : List Buffer)
+        (entry : Entry) (Refuses : State → List ℕ → List Buffer → E → Type 0) (why : E) → device.takes s ≡ true
+        → ¬ IsSpent left → left' ≡ less_chain left buffers → Loads races old taken → kind.IsTold old taken ring true
+        → kind.IsOffered old taken ring buffers entry → same ≡ ring
+        → RefusesRaced Refuses races taken new buffers s why → t ≡ s
+        → ServesUpTo kind device races Refuses buffers entry why first (standing_at new same t left')
+    left_there taken new same t left' buffers entry Refuses why takes within spends loads told offered unchanged refuses
+        kept = record {
+          between = p.between;
+          at = standing_at old ring s left;
+          serves = p.serves;
+          leaves = record {
+            taken = taken;
+            takes = takes;
+            within = within;
+            loads = loads;
+            told = told;
+            offered = offered;
+            refuses = refuses;
+            ring = unchanged;
+            state = kept;
+            left = spends;
+          };
+        }
 
   -- ---- a round
 
@@ -210,59 +196,44 @@ module _ {Ring State : Type 0} (kind : RacingKind Ring) (device : Device State) 
     ran_as Paused a start b opens none serves = ran_to Limited a start b opens none serves
     ran_as (Broken fault) a start b opens none serves = ran_to (Met fault) a start b opens none serves
 
-    opening : (old new : Sightings) (ring opened : Ring) (s : State) (left : Budget) → Loads races old new → opened ≡ opened_at kind stage (memory new) ring
-        → IsOpened kind device races stage (standing_at old ring s left) (standing_at new opened s left)
-    opening old new ring opened s left loads opens = record {
-      only = only old new ring opened s left loads;
-      ring = opens;
-    }
+    module _ (old new : Sightings) (ring opened : Ring) (s : State) (left : Budget) (loads : Loads races old new)
+        (opens : opened ≡ opened_at kind stage (memory new) ring) where
+      opening : IsOpened kind device races stage (standing_at old ring s left) (standing_at new opened s left)
+      opening = record { only = only old new ring opened s left loads; ring = opens }
 
-    pub ran : (stop : Stop) (old new : Sightings) (ring opened : Ring) (s : State) (left : Budget)
-        (b : Standing Ring State) → Loads races old new → None ≡ fault_at kind stage (memory new) ring
-        → opened ≡ opened_at kind stage (memory new) ring
-        → ServesAs kind device races stop (standing_at new opened s left) b
-        → RunsAs kind device races stage stop (standing_at old ring s left) b
-    ran stop old new ring opened s left b loads none opens serves =
-        ran_as stop (standing_at old ring s left) (standing_at new opened s left) b
-        (opening old new ring opened s left loads opens) none serves
+      -- what serving behind it comes to, or a chain that is left
+      pub ran_ok : {E : Type 0} (result : Result Stop E) (b : Standing Ring State)
+          → None ≡ fault_at kind stage (memory new) ring
+          → IfOk result (λ stop. ServesAs kind device races stop (standing_at new opened s left) b)
+          → IfOk result (λ stop. RunsAs kind device races stage stop (standing_at old ring s left) b)
+      ran_ok (Ok stop) b none serves =
+          ran_as stop (standing_at old ring s left) (standing_at new opened s left) b opening none serves
+      ran_ok (Err held) b none serves = tt
 
-    -- what serving behind it comes to, or a chain that is left
-    pub ran_ok : {E : Type 0} (result : Result Stop E) (old new : Sightings) (ring opened : Ring) (s : State) (left : Budget)
-        (b : Standing Ring State) → Loads races old new → None ≡ fault_at kind stage (memory new) ring
-        → opened ≡ opened_at kind stage (memory new) ring
-        → IfOk result (λ stop. ServesAs kind device races stop (standing_at new opened s left) b)
-        → IfOk result (λ stop. RunsAs kind device races stage stop (standing_at old ring s left) b)
-    ran_ok (Ok stop) old new ring opened s left b loads none opens serves =
-        ran stop old new ring opened s left b loads none opens serves
-    ran_ok (Err held) old new ring opened s left b loads none opens serves = tt
+      pub ran_up_to : {T E : Type 0} (entry_of : T → Entry) (Refuses : State → List ℕ → List Buffer → E → Type 0)
+          (buffers : List Buffer) (result : Result Stop (Held T E)) (b : Standing Ring State)
+          → None ≡ fault_at kind stage (memory new) ring
+          → IfErr result (λ held. ServesUpTo kind device races Refuses buffers (entry_of held.token) held.why
+          (standing_at new opened s left) b)
+          → IfErr result (λ held. RunsUpTo kind device races Refuses stage buffers (entry_of held.token) held.why
+          (standing_at old ring s left) b)
+      ran_up_to entry_of Refuses buffers (Ok stop) b none serves = tt
+      ran_up_to entry_of Refuses buffers (Err held) b none serves = record {
+        opened = standing_at new opened s left;
+        opens = opening;
+        no_fault = sym none;
+        serves = serves;
+      }
 
-    pub ran_up_to : {T E : Type 0} (entry_of : T → Entry) (Refuses : State → List ℕ → List Buffer → E → Type 0)
-        (buffers : List Buffer) (result : Result Stop (Held T E)) (old new : Sightings) (ring opened : Ring) (s : State)
-        (left : Budget) (b : Standing Ring State) → Loads races old new
-        → None ≡ fault_at kind stage (memory new) ring → opened ≡ opened_at kind stage (memory new) ring
-        → IfErr result (λ held. ServesUpTo kind device races Refuses buffers (entry_of held.token) held.why
-        (standing_at new opened s left) b)
-        → IfErr result (λ held. RunsUpTo kind device races Refuses stage buffers (entry_of held.token) held.why
-        (standing_at old ring s left) b)
-    ran_up_to entry_of Refuses buffers (Ok stop) old new ring opened s left b loads none opens serves = tt
-    ran_up_to entry_of Refuses buffers (Err held) old new ring opened s left b loads none opens serves = record {
-      opened = standing_at new opened s left;
-      opens = opening old new ring opened s left loads opens;
-      no_fault = sym none;
-      serves = serves;
-    }
-
-    -- an opening with a fault
-    pub ran_into : (old new : Sightings) (ring opened : Ring) (s : State) (left : Budget) (fault : Fault)
-        → Loads races old new → Some fault ≡ fault_at kind stage (memory new) ring
-        → opened ≡ opened_at kind stage (memory new) ring
-        → RunsAs kind device races stage (Broken fault) (standing_at old ring s left) (standing_at new opened s left)
-    ran_into old new ring opened s left fault loads some opens =
-        let start = standing_at new opened s left in record {
-          opened = start;
-          opens = opening old new ring opened s left loads opens;
-          works = subst (λ (f : Option Fault). Works kind device races f start (Met fault) start) some (refl, refl);
-        }
+      -- an opening with a fault
+      pub ran_into : (fault : Fault) → Some fault ≡ fault_at kind stage (memory new) ring
+          → RunsAs kind device races stage (Broken fault) (standing_at old ring s left) (standing_at new opened s left)
+      ran_into fault some =
+          let start = standing_at new opened s left in record {
+            opened = start;
+            opens = opening;
+            works = subst (λ (f : Option Fault). Works kind device races f start (Met fault) start) some (refl, refl);
+          }
 
     -- a look is a round up to its closing
     look_is_run : (a b : Standing Ring State) → IsLook kind device races stage a b
@@ -370,9 +341,6 @@ module _ {Ring State : Type 0} (kind : RacingKind Ring) (device : Device State) 
     pub here_is : here ≡ stage_behind stage rounds
     pub wanted_is : wanted ≡ any_wanted rounds
 
-  pub service_begins : (stage : Stage) (a : Standing Ring State) → IsInService stage stage a a 0 false
-  service_begins stage a = record { rounds = []; serves = refl; count = refl; here_is = refl; wanted_is = refl }
-
   -- a queue was closed
   closing : (old new : Sightings) (ring shut : Ring) (s : State) (left : Budget) (asked : Bool)
       → kind.IsClosed races old new ring asked → shut ≡ kind.still.shut ring
@@ -380,103 +348,96 @@ module _ {Ring State : Type 0} (kind : RacingKind Ring) (device : Device State) 
   closing old new ring shut s left asked closed shuts =
       record { closed = closed; ring = shuts; state = refl; left = refl }
 
-  module _ (stage here : Stage) (a b : Standing Ring State) (n : ℕ) (wanted : Bool) (stop : Stop)
-      (old new : Sightings) (ring shut : Ring) (s : State) (left : Budget) (asked wanted' : Bool)
-      (p : IsInService stage here a b n wanted)
-      (run : RunsAs kind device races here stop b (standing_at old ring s left)) (closed : kind.IsClosed races old new ring asked)
-      (shuts : shut ≡ kind.still.shut ring) (wants : wanted' ≡ (wanted || asked)) where
-    -- one more round, behind which none was on offer
-    pub service_goes_on : ending_of stop ≡ None → (here ≡ Again → ¬ (stop ≡ Idle))
-        → IsInService stage Again a (standing_at new shut s left) (n + 1) wanted'
-    service_goes_on e fresh =
-        let round : Round Ring State = record { wanted = asked; after = standing_at new shut s left } in record {
-          rounds = p.rounds ++ round ∷ [];
-          serves = rounds_push stage a b (standing_at old ring s left) p.rounds round stop e
-              (λ behind. fresh (p.here_is ∙ behind)) p.serves (rw p.here_is at run)
-              (closing old new ring shut s left asked closed shuts);
-          count = length_push p.rounds round ∙ ap (λ (k : ℕ). k + 1) p.count;
-          here_is = behind_push stage p.rounds round;
-          wanted_is = wants ∙ ap (λ (w : Bool). w || asked) p.wanted_is ∙ sym (wanted_push p.rounds round);
-        }
+  module _ (stage here : Stage) (a b : Standing Ring State) (n : ℕ) (wanted : Bool)
+      (p : IsInService stage here a b n wanted) where
+    module _ (stop : Stop) (old new : Sightings) (ring shut : Ring) (s : State) (left : Budget) (asked wanted' : Bool)
+        (run : RunsAs kind device races here stop b (standing_at old ring s left))
+        (closed : kind.IsClosed races old new ring asked) (shuts : shut ≡ kind.still.shut ring)
+        (wants : wanted' ≡ (wanted || asked)) where
+      -- one more round, behind which none was on offer
+      pub service_goes_on : ending_of stop ≡ None → (here ≡ Again → ¬ (stop ≡ Idle))
+          → IsInService stage Again a (standing_at new shut s left) (n + 1) wanted'
+      service_goes_on e fresh =
+          let round : Round Ring State = record { wanted = asked; after = standing_at new shut s left } in record {
+            rounds = p.rounds ++ round ∷ [];
+            serves = rounds_push stage a b (standing_at old ring s left) p.rounds round stop e
+                (λ behind. fresh (p.here_is ∙ behind)) p.serves (rw p.here_is at run)
+                (closing old new ring shut s left asked closed shuts);
+            count = length_push p.rounds round ∙ ap (λ (k : ℕ). k + 1) p.count;
+            here_is = behind_push stage p.rounds round;
+            wanted_is = wants ∙ ap (λ (w : Bool). w || asked) p.wanted_is ∙ sym (wanted_push p.rounds round);
+          }
 
-    -- one more, which ends the service
-    pub service_ends : (most : ℕ) (ending : Ending) → n ≤ most → ending_of stop ≡ Some ending
-        → IsRacingService kind device races stage most a (standing_at new shut s left) ending wanted'
-    service_ends most ending few e = record {
+      -- one more, which ends the service
+      pub service_ends : (most : ℕ) (ending : Ending) → n ≤ most → ending_of stop ≡ Some ending
+          → IsRacingService kind device races stage most a (standing_at new shut s left) ending wanted'
+      service_ends most ending few e = record {
+        rounds = p.rounds;
+        few = omega (arith, p.count, few);
+        at = b;
+        serves = p.serves;
+        ends = by stop (rw p.here_is at run) e;
+      }
+        where
+          ended : (halt : Halt) → IsRun kind device races (stage_behind stage p.rounds) b halt (standing_at old ring s left)
+              → EndsWith kind device races stage halt p.rounds b (standing_at new shut s left) wanted'
+          ended halt run = record {
+            asked = asked;
+            round = record {
+              last = standing_at old ring s left;
+              run = run;
+              closes = closing old new ring shut s left asked closed shuts;
+            };
+            wanted_is = wants ∙ ap (λ (w : Bool). w || asked) p.wanted_is;
+          }
+
+          by : (stop : Stop) → RunsAs kind device races (stage_behind stage p.rounds) stop b (standing_at old ring s left)
+              → ending_of stop ≡ Some ending
+              → EndsBy kind device races stage ending most p.rounds b (standing_at new shut s left) wanted'
+          by Idle run e = cc
+          by Dry run e = cc
+          by Paused run e = let same : More ≡ ending = cc in rw (← same) (inl (ended Limited run))
+          by (Broken fault) run e = let same : Faulted fault ≡ ending = cc in rw (← same) (ended (Met fault) run)
+
+    -- a look behind closing writes finds nothing new
+    pub service_settles : (most : ℕ) (stop : Stop) (new : Sightings) (ring shut : Ring) (s : State) (left : Budget)
+        → n ≤ most → here ≡ Again → RunsAs kind device races here stop b (standing_at new ring s left) → stop ≡ Idle
+        → shut ≡ kind.still.shut ring
+        → IsRacingService kind device races stage most a (standing_at new shut s left) Settled wanted
+    service_settles most stop new ring shut s left few again run idle shuts = record {
       rounds = p.rounds;
       few = omega (arith, p.count, few);
       at = b;
       serves = p.serves;
-      ends = by stop (rw p.here_is at run) e;
+      ends = record {
+        behind = sym p.here_is ∙ again;
+        looked = standing_at new ring s left;
+        look = rw (again, idle) at run;
+        shut = rw shuts refl;
+        wanted_is = p.wanted_is;
+      };
     }
-      where
-        ended : (halt : Halt) → IsRun kind device races (stage_behind stage p.rounds) b halt (standing_at old ring s left)
-            → EndsWith kind device races stage halt p.rounds b (standing_at new shut s left) wanted'
-        ended halt run = record {
-          asked = asked;
-          round = record {
-            last = standing_at old ring s left;
-            run = run;
-            closes = closing old new ring shut s left asked closed shuts;
-          };
-          wanted_is = wants ∙ ap (λ (w : Bool). w || asked) p.wanted_is;
-        }
 
-        by : (stop : Stop) → RunsAs kind device races (stage_behind stage p.rounds) stop b (standing_at old ring s left)
-            → ending_of stop ≡ Some ending
-            → EndsBy kind device races stage ending most p.rounds b (standing_at new shut s left) wanted'
-        by Idle run e = cc
-        by Dry run e = cc
-        by Paused run e =
-            subst (λ (o : Ending). EndsBy kind device races stage o most p.rounds b (standing_at new shut s left) wanted')
-            (let same : More ≡ ending = cc in same) (inl (ended Limited run))
-        by (Broken fault) run e =
-            subst (λ (o : Ending). EndsBy kind device races stage o most p.rounds b (standing_at new shut s left) wanted')
-            (let same : Faulted fault ≡ ending = cc in same) (ended (Met fault) run)
+    -- no more rounds are left
+    pub service_stops : (most : ℕ) → n ≤ most → most ≤ n → IsRacingService kind device races stage most a b More wanted
+    service_stops most few all = record {
+      rounds = p.rounds;
+      few = omega (arith, p.count, few);
+      at = b;
+      serves = p.serves;
+      ends = inr (record { all = omega (arith, p.count, few, all); stands = refl; wanted_is = p.wanted_is });
+    }
 
-  -- a look behind closing writes finds nothing new
-  pub service_settles : (stage here : Stage) (most : ℕ) (a b : Standing Ring State) (n : ℕ) (wanted : Bool) (stop : Stop)
-      (new : Sightings) (ring shut : Ring) (s : State) (left : Budget) → IsInService stage here a b n wanted → n ≤ most
-      → here ≡ Again → RunsAs kind device races here stop b (standing_at new ring s left) → stop ≡ Idle
-      → shut ≡ kind.still.shut ring
-      → IsRacingService kind device races stage most a (standing_at new shut s left) Settled wanted
-  service_settles stage here most a b n wanted stop new ring shut s left p few again run idle shuts = record {
-    rounds = p.rounds;
-    few = omega (arith, p.count, few);
-    at = b;
-    serves = p.serves;
-    ends = record {
-      behind = sym p.here_is ∙ again;
-      looked = standing_at new ring s left;
-      look = rw (again, idle) at run;
-      shut = rw shuts refl;
+    -- a chain is left on offer
+    pub service_left : (most : ℕ) {E : Type 0} (c : Standing Ring State)
+        (Refuses : State → List ℕ → List Buffer → E → Type 0) (buffers : List Buffer) (entry : Entry) (why : E) → n < most
+        → RunsUpTo kind device races Refuses here buffers entry why b c
+        → IsRefusedService kind device races Refuses stage most a c buffers entry why wanted
+    service_left most c Refuses buffers entry why few run = record {
+      rounds = p.rounds;
+      few = omega (arith, p.count, few);
+      at = b;
+      serves = p.serves;
+      leaves = rw p.here_is at run;
       wanted_is = p.wanted_is;
-    };
-  }
-
-  -- no more rounds are left
-  pub service_stops : (stage here : Stage) (most n : ℕ) (a b : Standing Ring State) (wanted : Bool)
-      → IsInService stage here a b n wanted → n ≤ most → most ≤ n
-      → IsRacingService kind device races stage most a b More wanted
-  service_stops stage here most n a b wanted p few all = record {
-    rounds = p.rounds;
-    few = omega (arith, p.count, few);
-    at = b;
-    serves = p.serves;
-    ends = inr (record { all = omega (arith, p.count, few, all); stands = refl; wanted_is = p.wanted_is });
-  }
-
-  -- a chain is left on offer
-  pub service_left : (stage here : Stage) (most : ℕ) (a b : Standing Ring State) (n : ℕ) (wanted : Bool) {E : Type 0}
-      (c : Standing Ring State) (Refuses : State → List ℕ → List Buffer → E → Type 0) (buffers : List Buffer) (entry : Entry)
-      (why : E) → IsInService stage here a b n wanted → n < most
-      → RunsUpTo kind device races Refuses here buffers entry why b c
-      → IsRefusedService kind device races Refuses stage most a c buffers entry why wanted
-  service_left stage here most a b n wanted c Refuses buffers entry why p few run = record {
-    rounds = p.rounds;
-    few = omega (arith, p.count, few);
-    at = b;
-    serves = p.serves;
-    leaves = rw p.here_is at run;
-    wanted_is = p.wanted_is;
-  }
+    }

@@ -1,10 +1,10 @@
 -- A chain that its guest leaves alone while it is taken is served at one moment.
-use Rattle.std.proofs.Common.{◌≡◌, ◌∙◌, ℕ, ◌+◌, ◌*◌, ◌%◌, ◌<◌, ◌≤◌, Bool, true, false, List, [], ◌∷◌, ◌++◌, length, refl, sym, ap, subst, arith}
+use Rattle.std.proofs.Common.{◌≡◌, ◌∙◌, ℕ, ◌+◌, ◌%◌, ◌<◌, ◌≤◌, Bool, true, false, List, [], ◌∷◌, ◌++◌, length, refl, sym, ap, subst, arith}
 use Rattle.std.specs.Prelude.{◌&&◌, All, nat_lt}
 use Rattle.std.specs.List.{AllByRecursion}
 use Rattle.std.proofs.Math.Nat.{mod-add-mod}
 use Rattle.std.proofs.lemmas.Nat.{mod_below}
-use Rattle.std.proofs.lemmas.List.Elements.{All-from_recursion, recursion_from_All}
+use Rattle.std.proofs.lemmas.List.Elements.{All-cons, All-from_recursion, All-nil, All-weaker, recursion_from_All}
 use Rattle.guest_memory.specs.Memory.{Memory, num}
 use Rattle.chain.specs.declared.segment.Buffer.{Buffer}
 use Rattle.chain.specs.declared.state.RingState.{RingState}
@@ -14,7 +14,7 @@ use Rattle.chain.proofs.Servicing.{both}
 use Rattle.indirect.specs.declared.descriptor.Descriptor.{Descriptor}
 use Rattle.indirect.specs.Descriptors.{split_descriptor}
 use Rattle.indirect.specs.Walks.{Leads, first_of}
-use Rattle.indirect.specs.Lists.{TableKind, split_tables, packed_tables, EndsBy, ListResolves}
+use Rattle.indirect.specs.Lists.{TableKind, split_tables, packed_tables, ListResolves}
 use Rattle.split_ring.specs.Ring as split_ring
 use Rattle.split_ring.specs.Kind as split_kinds
 use Rattle.split_ring.specs.Kind.{split_kind}
@@ -24,13 +24,14 @@ use Rattle.packed_ring.specs.Kind.{packed_kind}
 use Rattle.shared_memory.specs.Sightings.{Sightings, memory}
 use Rattle.racing_ring.specs.Split as split
 use Rattle.racing_ring.specs.Packed as packed
-use Rattle.racing_ring.specs.Packed.{AreSources, IsOneDescriptor, IsPublished, are_available, read_table}
-use Rattle.racing_ring.specs.Table.{IsTableSeen, read_split}
+use Rattle.racing_ring.specs.Packed.{IsPublished, are_available, read_table}
+use Rattle.racing_ring.specs.Table.{read_split}
 use Rattle.racing_ring.specs.Source.{IsSeenInTurn, Source}
+use Rattle.racing_ring.proofs.Leaving.{list_of_members}
 use Rattle.racing_ring.proofs.PackedLeaving.{described_one}
 use Rattle.racing_ring.proofs.Positions.{next_is, start_at}
 use Rattle.racing_ring.proofs.Publishing.{both_stand, published_alone}
-use Rattle.racing_ring.proofs.Tables.{Agree, reached_kept}
+use Rattle.racing_ring.proofs.Tables.{Agree}
 use Rattle.racing_service.specs.Queue.{RacingKind, racing_packed, racing_split}
 use Rattle.racing_service.specs.Service.{Standing, LeavesOne}
 use Rattle.racing_service.specs.LeftAlone.{IsLeftAlone, IsLeftAtOnce, IsServedAtOnce, KeepsPacked, KeepsSplit, LeavesAlone, LeavesPacked, LeavesSplit, OneServed}
@@ -48,22 +49,19 @@ at_last : (P : ℕ → Type 0) (front : List ℕ) (last : ℕ) → AllByRecursio
 at_last P [] last each = each.0
 at_last P (x ∷ front) last each = at_last P front last each.1
 
-at_first : (P : ℕ → Type 0) (front : List ℕ) (last : ℕ) → AllByRecursion P (front ++ last ∷ [])
-    → P (first_of front last)
-at_first P [] last each = each.0
-at_first P (x ∷ front) last each = each.0
+-- a list begins at its first member
+at_head : (P : ℕ → Type 0) (t : ℕ → Descriptor) (n h last : ℕ) (front : List ℕ) → Leads t n h front last
+    → AllByRecursion P (front ++ last ∷ []) → P h
+at_head P t n h last [] leads each = rw leads each.0
+at_head P t n h last (x ∷ front) leads each = rw leads.0 each.0
 
 members_kept : (kind : TableKind) (negotiated : Bool) (m : Memory) (t u : ℕ → Descriptor) (n h count last : ℕ)
     (buffers : List Buffer) (x : ListResolves kind negotiated m t n h count last buffers)
-    → AllByRecursion (λ i. t i ≡ u i) (x.reached.front ++ last ∷ [])
-    → ListResolves kind negotiated m u n h count last buffers
-members_kept kind negotiated m t u n h count last buffers x each = record {
-  before = x.before;
-  reached = reached_kept m [] t u n h count last x.before x.reached (agree_front t u x.reached.front last each);
-  comes = x.comes;
-  ends = subst (λ (d : Descriptor). EndsBy kind negotiated m d.indirect x.before count d buffers)
-      (at_last (λ i. t i ≡ u i) x.reached.front last each) x.ends;
-}
+    → All (λ i. t i ≡ u i) (x.reached.front ++ last ∷ []) → ListResolves kind negotiated m u n h count last buffers
+members_kept kind negotiated m t u n h count last buffers x all =
+    let each = recursion_from_All (λ i. t i ≡ u i) (x.reached.front ++ last ∷ []) all in
+    list_of_members kind negotiated m t u n h count last buffers x (agree_front t u x.reached.front last each)
+    (at_last (λ i. t i ≡ u i) x.reached.front last each)
 
 -- ---- the split ring
 
@@ -72,64 +70,50 @@ split_offered : (old new : Sightings) (ring : RingState) (buffers : List Buffer)
     → split_kind.Offers (memory new) ring buffers entry
 split_offered old new ring buffers entry o leaves =
     let table = split_ring.table_of (memory new) ring in
-    let members = o.walked.resolves.reached.front ++ o.walked.last ∷ [] in
-    let each = recursion_from_All (λ i. o.walked.table i ≡ table i) members leaves.each in
     record {
       count = o.walked.count;
       last = o.walked.last;
       list = subst (λ (h : ℕ). ListResolves split_tables ring.setup.indirect (memory new) table ring.setup.size h
           o.walked.count o.walked.last buffers) leaves.head
           (members_kept split_tables ring.setup.indirect (memory new) o.walked.table table ring.setup.size
-          (split_ring.head_of o.head_in ring) o.walked.count o.walked.last buffers o.walked.resolves each);
+          (split_ring.head_of o.head_in ring) o.walked.count o.walked.last buffers o.walked.resolves leaves.each);
       entry_is = o.entry_is ∙ ap split_kinds.entry_of leaves.head;
     }
 
 -- ---- the packed ring
 
-all_read : (source : ℕ → Source) (m : Memory) (desc n : ℕ) (members : List ℕ)
-    → AllByRecursion (λ i. packed.IsLeftAlone (source i) m (packed_ring.descriptor_addr desc i)) members
-    → AllByRecursion (λ i. read_table source desc n i ≡ packed_ring.ring_descriptor m desc n i) members
-all_read source m desc n [] each = tt
-all_read source m desc n (i ∷ members) each =
-    (described_one (source i) m desc n i each.0, all_read source m desc n members each.1)
-
--- a list begins at its first member
-begins : (t : ℕ → Descriptor) (n h i : ℕ) (front : List ℕ) → Leads t n h front i → h ≡ first_of front i
-begins t n h i [] leads = leads
-begins t n h i (x ∷ front) leads = leads.0
-
 module _ (old new : Sightings) (ring : RingState) (buffers : List Buffer) (entry : Entry)
-    (o : packed.IsOffered old new ring buffers entry) (leaves : LeavesPacked old new ring buffers entry o) where
-  stands : AllByRecursion (λ i. packed.IsLeftAlone (o.source i) (memory new) (packed_ring.descriptor_addr ring.setup.desc i))
-      (o.offers.list.reached.front ++ o.offers.last ∷ [])
-  stands = recursion_from_All (λ i. packed.IsLeftAlone (o.source i) (memory new) (packed_ring.descriptor_addr ring.setup.desc i))
-      (o.offers.list.reached.front ++ o.offers.last ∷ []) leaves.each
+    (o : packed.IsOffered old new ring buffers entry) where
+  abbrev IsAlone : ℕ → Type 0
+  IsAlone i = packed.IsLeftAlone (o.source i) (memory new) (packed_ring.descriptor_addr ring.setup.desc i)
 
-  packed_offered : packed_kind.Offers (memory new) ring buffers entry
-  packed_offered =
+  abbrev members : List ℕ
+  members = o.offers.list.reached.front ++ o.offers.last ∷ []
+
+  abbrev as_read : ℕ → Descriptor
+  as_read = read_table o.source ring.setup.desc ring.setup.size
+
+  packed_offered : LeavesPacked old new ring buffers entry o → packed_kind.Offers (memory new) ring buffers entry
+  packed_offered leaves =
       let list = o.offers.list in
       let n = ring.setup.size in
-      let last = at_last (λ i. packed.IsLeftAlone (o.source i) (memory new) (packed_ring.descriptor_addr ring.setup.desc i))
-      list.reached.front o.offers.last stands in
+      let here = packed_ring.table_of (memory new) ring in
+      let last = at_last IsAlone list.reached.front o.offers.last (recursion_from_All IsAlone members leaves.each) in
       record {
         count = o.offers.count;
         last = o.offers.last;
-        list = members_kept packed_tables ring.setup.indirect (memory new) (read_table o.source ring.setup.desc n)
-            (packed_ring.table_of (memory new) ring) n (packed_ring.head_of ring) o.offers.count o.offers.last buffers list
-            (all_read o.source (memory new) ring.setup.desc n (list.reached.front ++ o.offers.last ∷ []) stands);
+        list = members_kept packed_tables ring.setup.indirect (memory new) as_read here n (packed_ring.head_of ring)
+            o.offers.count o.offers.last buffers list
+            (All-weaker IsAlone (λ i. as_read i ≡ here i)
+            (λ i. described_one (o.source i) (memory new) ring.setup.desc n i) members leaves.each);
         entry_is = o.offers.entry_is ∙ ap (λ (id : ℕ). packed_kinds.entry_of id (o.offers.count + 1)) last.id;
       }
 
   -- so its first descriptor is available in that memory, too
-  packed_available : packed_ring.is_available (memory new) ring ≡ true
-  packed_available =
-      let list = o.offers.list in
-      let head = begins (read_table o.source ring.setup.desc ring.setup.size) ring.setup.size (packed_ring.head_of ring)
-      o.offers.last list.reached.front list.reached.leads in
-      let first : packed.IsLeftAlone (o.source (packed_ring.head_of ring)) (memory new)
-      (packed_ring.descriptor_addr ring.setup.desc (packed_ring.head_of ring)) =
-      rw head (at_first (λ i. packed.IsLeftAlone (o.source i) (memory new) (packed_ring.descriptor_addr ring.setup.desc i))
-      list.reached.front o.offers.last stands) in
+  packed_available : LeavesPacked old new ring buffers entry o → packed_ring.is_available (memory new) ring ≡ true
+  packed_available leaves =
+      let first = at_head IsAlone as_read ring.setup.size (packed_ring.head_of ring) o.offers.last
+      o.offers.list.reached.front o.offers.list.reached.leads (recursion_from_All IsAlone members leaves.each) in
       ap (λ (flags : ℕ). are_available flags (packed_ring.next_wrap ring)) (sym first.flags) ∙ o.read.available
 
 going : (going available : Bool) → true ≡ (going && available) → going ≡ true
@@ -148,10 +132,11 @@ packed_offers old new ring buffers entry o told leaves =
 
 -- the members of a list lie in the table
 members_below : (t : ℕ → Descriptor) (n h last : ℕ) (front : List ℕ) → Leads t n h front last → last < n
-    → AllByRecursion (λ i. i < n) (front ++ last ∷ [])
-members_below t n h last [] leads below = (below, tt)
+    → All (λ i. i < n) (front ++ last ∷ [])
+members_below t n h last [] leads below = All-cons (λ i. i < n) last [] below (All-nil (λ i. i < n))
 members_below t n h last (x ∷ front) leads below =
-    (leads.1.below, members_below t n (first_of front last) last front leads.2 below)
+    All-cons (λ i. i < n) x (front ++ last ∷ []) leads.1.below
+    (members_below t n (first_of front last) last front leads.2 below)
 
 -- a descriptor with another address
 at_address : Descriptor → ℕ → Descriptor
@@ -170,19 +155,6 @@ split_one begin new source addr seen same =
     ∙ ap (λ (d : Descriptor). at_address d (num (new.at seen.addr_at) addr 8)) flags
     ∙ ap (λ (d : Descriptor). at_address (split_descriptor m addr) d.buffer.segment.addr) address
 
-split_seen : (begin : ℕ) (new : Sightings) (ring : RingState) (table : ℕ → Descriptor)
-    → IsTableSeen begin new ring.setup.desc ring.setup.size table → (members : List ℕ)
-    → AllByRecursion (λ i. i < ring.setup.size) members
-    → AllByRecursion (λ i. (k : ℕ) → begin ≤ k → k ≤ new.now
-    → split_ring.table_of (new.at k) ring i ≡ split_ring.table_of (memory new) ring i) members
-    → AllByRecursion (λ i. table i ≡ split_ring.table_of (memory new) ring i) members
-split_seen begin new ring table seen [] below each = tt
-split_seen begin new ring table seen (i ∷ members) below each =
-    let was = seen i below.0 in (
-      was.is ∙ split_one begin new was.source (ring.setup.desc + 16 * i) was.seen each.0,
-      split_seen begin new ring table seen members below.1 each.1,
-    )
-
 pub split_alike : (old new : Sightings) (ring : RingState) (buffers : List Buffer) (entry : Entry)
     (o : split.IsOffered old new ring buffers entry)
     → KeepsSplit o.head_seen.place new ring (o.walked.resolves.reached.front ++ o.walked.last ∷ [])
@@ -190,36 +162,15 @@ pub split_alike : (old new : Sightings) (ring : RingState) (buffers : List Buffe
 split_alike old new ring buffers entry o keeps =
     let list = o.walked.resolves in
     let begin = o.head_seen.place in
-    let members = list.reached.front ++ o.walked.last ∷ [] in
     let below = members_below o.walked.table ring.setup.size (split_ring.head_of o.head_in ring) o.walked.last
     list.reached.front list.reached.leads list.comes.below in
-    let each = recursion_from_All (λ i. (k : ℕ) → begin ≤ k → k ≤ new.now
-    → split_ring.table_of (new.at k) ring i ≡ split_ring.table_of (memory new) ring i) members keeps.each in
     record {
       head = ap (λ (m : Memory). split_ring.head_of m ring) o.head_seen.is
           ∙ keeps.head o.head_seen.place (omega arith) o.head_seen.to;
-      each = All-from_recursion (λ i. o.walked.table i ≡ split_ring.table_of (memory new) ring i) members
-          (split_seen begin new ring o.walked.table o.walked.table_seen members below each);
+      each = λ k d there.
+          let was = o.walked.table_seen _ (below k d there) in
+          was.is ∙ split_one begin new was.source _ was.seen (keeps.each k d there);
     }
-
-packed_one : (begin : ℕ) (new : Sightings) (source : Source) (addr : ℕ) → IsSeenInTurn begin new source
-    → ((k : ℕ) → begin ≤ k → k ≤ new.now → IsOneDescriptor (new.at k) (memory new) addr)
-    → packed.IsLeftAlone source (memory new) addr
-packed_one begin new source addr seen same =
-    both_stand new begin addr (memory new) source seen
-    (same seen.flags_at seen.from (omega (arith, seen.in_turn, seen.to)))
-    (same seen.addr_at (omega (arith, seen.from, seen.in_turn)) seen.to)
-
-packed_seen : (begin : ℕ) (new : Sightings) (desc n : ℕ) (source : ℕ → Source) → AreSources begin new n source
-    → (members : List ℕ) → AllByRecursion (λ i. i < n) members
-    → AllByRecursion (λ i. (k : ℕ) → begin ≤ k → k ≤ new.now
-    → IsOneDescriptor (new.at k) (memory new) (packed_ring.descriptor_addr desc i)) members
-    → AllByRecursion (λ i. packed.IsLeftAlone (source i) (memory new) (packed_ring.descriptor_addr desc i)) members
-packed_seen begin new desc n source sources [] below each = tt
-packed_seen begin new desc n source sources (i ∷ members) below each = (
-  packed_one begin new (source i) (packed_ring.descriptor_addr desc i) (sources i below.0) each.0,
-  packed_seen begin new desc n source sources members below.1 each.1,
-)
 
 pub packed_alike : (old new : Sightings) (ring : RingState) (buffers : List Buffer) (entry : Entry)
     (o : packed.IsOffered old new ring buffers entry)
@@ -228,15 +179,15 @@ pub packed_alike : (old new : Sightings) (ring : RingState) (buffers : List Buff
 packed_alike old new ring buffers entry o keeps =
     let list = o.offers.list in
     let begin = o.read.first_seen.place in
-    let members = list.reached.front ++ o.offers.last ∷ [] in
     let below = members_below (read_table o.source ring.setup.desc ring.setup.size) ring.setup.size
     (packed_ring.head_of ring) o.offers.last list.reached.front list.reached.leads list.comes.below in
-    let each = recursion_from_All (λ i. (k : ℕ) → begin ≤ k → k ≤ new.now
-    → IsOneDescriptor (new.at k) (memory new) (packed_ring.descriptor_addr ring.setup.desc i)) members keeps.each in
     record {
-      each = All-from_recursion
-          (λ i. packed.IsLeftAlone (o.source i) (memory new) (packed_ring.descriptor_addr ring.setup.desc i)) members
-          (packed_seen begin new ring.setup.desc ring.setup.size o.source o.read.sources members below each);
+      each = λ k d there.
+          let seen = o.read.sources _ (below k d there) in
+          let same = keeps.each k d there in
+          both_stand new begin _ (memory new) _ seen
+          (same seen.flags_at seen.from (omega (arith, seen.in_turn, seen.to)))
+          (same seen.addr_at (omega (arith, seen.from, seen.in_turn)) seen.to);
     }
 
 -- ---- what is published meanwhile is left alone from then on
@@ -270,13 +221,11 @@ packed_published old new ring buffers entry o p =
     let list = o.offers.list in
     let h = packed_ring.head_of ring in
     let n = ring.setup.size in
-    let members = list.reached.front ++ o.offers.last ∷ [] in
+    let alone = IsAlone old new ring buffers entry o in
     record {
-      each = All-from_recursion
-          (λ i. packed.IsLeftAlone (o.source i) (memory new) (packed_ring.descriptor_addr ring.setup.desc i)) members
-          (members_in_turn o.source ring.setup.desc n
-          (λ i. packed.IsLeftAlone (o.source i) (memory new) (packed_ring.descriptor_addr ring.setup.desc i)) h o.offers.last
-          list.reached.front list.reached.leads list.comes.below
+      each = All-from_recursion alone (members old new ring buffers entry o)
+          (members_in_turn o.source ring.setup.desc n alone h o.offers.last list.reached.front list.reached.leads
+          list.comes.below
           (λ k few. published_alone old new ring.setup.desc n h (packed_ring.next_wrap ring) o.offers.count o.source o.read p k
           (omega (arith, few, list.reached.counted)) (mod_below (h + k) n (omega (arith, list.comes.below)))));
     }

@@ -1,5 +1,5 @@
 -- What each call of a queue keeps of it, a service keeps, and the memory its range.
-use Rattle.std.proofs.Common.{◌≡◌, ℕ, Bool, Option, Some, None, inl, inr, List, [], ◌∷◌, refl, sym, ap, subst}
+use Rattle.std.proofs.Common.{◌≡◌, ℕ, Bool, Option, Some, None, inl, inr, List, [], ◌∷◌}
 use Rattle.guest_memory.specs.Memory.{Memory, SameRange}
 use Rattle.guest_memory.proofs.Ranges.{same_trans}
 use Rattle.chain.specs.declared.fault.Fault.{Fault}
@@ -12,7 +12,7 @@ use Rattle.racing_service.specs.declared.service.Ending.TheVariants.{Settled, Fa
 use Rattle.racing_service.specs.declared.stage.Stage.{Stage}
 use Rattle.racing_service.specs.declared.stage.Stage.TheVariants.{First, Next, Again}
 use Rattle.racing_service.specs.Queue.{RacingKind}
-use Rattle.racing_service.specs.Service.{Standing, Halt, Drained, Met, Limited, Round, ServesOne, ServesSome, OnlyLoads, HaltsBy, Serves, IsOpened, Works, IsRun, IsClosing, IsRound, AreBusyRounds, AreRounds, IsSettled, EndsBy, IsRacingService, IsRefusedService, fault_at, stage_behind}
+use Rattle.racing_service.specs.Service.{Standing, Halt, Drained, Met, Limited, Round, ServesOne, ServesSome, OnlyLoads, HaltsBy, Serves, IsOpened, Works, IsRun, IsClosing, IsRound, AreBusyRounds, AreRounds, IsSettled, EndsBy, IsRacingService, IsRefusedService, fault_at, opened_at, stage_behind}
 use Rattle.racing_service.proofs.Coming.{busy_is_round, first_is_round}
 use Rattle.racing_service.proofs.Standing.{does_range}
 
@@ -35,16 +35,9 @@ module _ {Ring : Type 0} {kind : RacingKind Ring} {Stays : Ring → Ring → Typ
     pub stays : Stays a.ring b.ring
     pub range : SameRange (memory a.sightings) (memory b.sightings)
 
-  stays_same : (a b : Ring) → b ≡ a → Stays a b
-  stays_same a b same = rw same (laws.same a)
-
-  stays_is : (a c b : Ring) → b ≡ c → Stays a c → Stays a b
-  stays_is a c b same stays = rw same stays
-
   module _ {State : Type 0} (device : Device State) (races : Bool) where
     keeps_none : (a b : Standing Ring State) → b ≡ a → Keeps a b
-    keeps_none a b same =
-        rw same (record { stays = stays_same a.ring a.ring refl; range = same_self (memory a.sightings) })
+    keeps_none a b same = rw same (record { stays = laws.same a.ring; range = same_self (memory a.sightings) })
 
     pub keeps_trans : (a b c : Standing Ring State) → Keeps a b → Keeps b c → Keeps a c
     keeps_trans a b c p q = record {
@@ -58,7 +51,7 @@ module _ {Ring : Type 0} {kind : RacingKind Ring} {Stays : Ring → Ring → Typ
 
     one_keeps : (a b : Standing Ring State) → ServesOne kind device races a b → Keeps a b
     one_keeps a b s = record {
-      stays = stays_is a.ring (kind.still.past a.ring s.entry) b.ring s.past (laws.past a.ring s.entry);
+      stays = rw s.past (laws.past a.ring s.entry);
       range = same_trans (memory a.sightings) (memory s.taken) (memory b.sightings)
           (loads_range races a.sightings s.taken s.loads)
           (same_trans (memory s.taken) (memory s.served) (memory b.sightings)
@@ -72,29 +65,24 @@ module _ {Ring : Type 0} {kind : RacingKind Ring} {Stays : Ring → Ring → Typ
     some_keeps (x ∷ between) a b s = keeps_trans a x b (one_keeps a x s.0) (some_keeps between x b s.1)
 
     halts_keeps : (halt : Halt) (a b : Standing Ring State) → HaltsBy kind device races halt a b → Keeps a b
-    halts_keeps Drained a b h = record { stays = stays_same a.ring b.ring h.ring; range = only_range a b h.only }
-    halts_keeps (Met fault) a b h = record {
-      stays = stays_is a.ring (kind.still.stopped a.ring) b.ring h.ring (laws.stopped a.ring);
-      range = only_range a b h.only;
-    }
-    halts_keeps Limited a b h = record { stays = stays_same a.ring b.ring h.ring; range = only_range a b h.only }
+    halts_keeps Drained a b h = record { stays = rw h.ring (laws.same a.ring); range = only_range a b h.only }
+    halts_keeps (Met fault) a b h = record { stays = rw h.ring (laws.stopped a.ring); range = only_range a b h.only }
+    halts_keeps Limited a b h = record { stays = rw h.ring (laws.same a.ring); range = only_range a b h.only }
 
     serves_keeps : (halt : Halt) (a b : Standing Ring State) → Serves kind device races a halt b → Keeps a b
     serves_keeps halt a b s =
         keeps_trans a s.at b (some_keeps s.between a s.at s.serves) (halts_keeps halt s.at b s.halts)
 
-    opened_stays : (stage : Stage) (a b : Standing Ring State) → IsOpened kind device races stage a b
-        → Stays a.ring b.ring
-    opened_stays First a b o =
-        stays_is a.ring (kind.still.opened (memory b.sightings) a.ring) b.ring o.ring
-        (laws.opened (memory b.sightings) a.ring)
-    opened_stays Next a b o = stays_same a.ring b.ring o.ring
-    opened_stays Again a b o =
-        stays_is a.ring (kind.still.opened (memory b.sightings) a.ring) b.ring o.ring
-        (laws.opened (memory b.sightings) a.ring)
+    opened_stays : (stage : Stage) (m : Memory) (queue : Ring) → Stays queue (opened_at kind stage m queue)
+    opened_stays First m queue = laws.opened m queue
+    opened_stays Next m queue = laws.same queue
+    opened_stays Again m queue = laws.opened m queue
 
     opens_keeps : (stage : Stage) (a b : Standing Ring State) → IsOpened kind device races stage a b → Keeps a b
-    opens_keeps stage a b o = record { stays = opened_stays stage a b o; range = only_range a b o.only }
+    opens_keeps stage a b o = record {
+      stays = rw o.ring (opened_stays stage (memory b.sightings) a.ring);
+      range = only_range a b o.only;
+    }
 
     works_keeps : (fault : Option Fault) (a : Standing Ring State) (halt : Halt) (b : Standing Ring State)
         → Works kind device races fault a halt b → Keeps a b
@@ -109,7 +97,7 @@ module _ {Ring : Type 0} {kind : RacingKind Ring} {Stays : Ring → Ring → Typ
 
     pub closing_keeps : (a b : Standing Ring State) (wanted : Bool) → IsClosing kind device races a b wanted → Keeps a b
     closing_keeps a b wanted c = record {
-      stays = stays_is a.ring (kind.still.shut a.ring) b.ring c.ring (laws.shut a.ring);
+      stays = rw c.ring (laws.shut a.ring);
       range = laws.closed_range races a.sightings b.sightings a.ring wanted c.closed;
     }
 
@@ -138,16 +126,10 @@ module _ {Ring : Type 0} {kind : RacingKind Ring} {Stays : Ring → Ring → Typ
         → IsSettled kind device races stage rounds at b wanted → Keeps at b
     settled_keeps stage rounds at b wanted s =
         let opened = s.look.opened in
-        let none = s.look.finds in
-        let shut : b.ring ≡ kind.still.shut s.looked.ring = ap (λ (x : Standing Ring State). x.ring) s.shut in
-        let seen : b.sightings ≡ s.looked.sightings = ap (λ (x : Standing Ring State). x.sightings) s.shut in
-        let looked = keeps_trans at opened s.looked (opens_keeps Again at opened s.look.opens)
-        (halts_keeps Drained opened s.looked none) in
-        record {
-          stays = laws.trans at.ring s.looked.ring b.ring looked.stays
-              (stays_is s.looked.ring (kind.still.shut s.looked.ring) b.ring shut (laws.shut s.looked.ring));
-          range = subst (λ (l : Sightings). SameRange (memory at.sightings) (memory l)) (sym seen) looked.range;
-        }
+        let shut : Keeps s.looked b =
+        rw s.shut (record { stays = laws.shut s.looked.ring; range = same_self (memory s.looked.sightings) }) in
+        keeps_trans at opened b (opens_keeps Again at opened s.look.opens)
+        (keeps_trans opened s.looked b (halts_keeps Drained opened s.looked s.look.finds) shut)
 
     ends_keeps : (stage : Stage) (ending : Ending) (most : ℕ) (rounds : List (Round Ring State))
         (at b : Standing Ring State) (wanted : Bool) → EndsBy kind device races stage ending most rounds at b wanted
@@ -175,7 +157,7 @@ module _ {Ring : Type 0} {kind : RacingKind Ring} {Stays : Ring → Ring → Typ
         (keeps_trans s.at up.opened b (opens_keeps (stage_behind stage s.rounds) s.at up.opened up.opens)
         (keeps_trans up.opened up.serves.at b (some_keeps up.serves.between up.opened up.serves.at up.serves.serves)
         (record {
-          stays = stays_same up.serves.at.ring b.ring one.ring;
+          stays = rw one.ring (laws.same up.serves.at.ring);
           range = same_trans (memory up.serves.at.sightings) (memory one.taken) (memory b.sightings)
               (loads_range races up.serves.at.sightings one.taken one.loads)
               (loads_range races one.taken b.sightings one.refuses.reads);

@@ -11,12 +11,12 @@ use Rattle.guest_memory.specs.Memory.{Memory, Inside, SameRange, put}
 use Rattle.guest_memory.proofs.Ranges.{inside_same, same_trans, take-plus}
 use Rattle.chain.specs.declared.segment.Buffer.{Buffer}
 use Rattle.chain.specs.declared.segment.Segment.{Segment}
-use Rattle.chain.specs.Buffers.{Good}
-use Rattle.chain.specs.Bytes.{addresses, segments_of, writable_of}
+use Rattle.chain.specs.Buffers.{Within, total_len}
+use Rattle.chain.specs.Bytes.{addresses, addresses_of, len_of, segments_of, writable_of}
 use Rattle.chain.specs.Runs.{runs_of}
 use Rattle.chain.specs.Service.{scattered, wrote}
 use Rattle.chain.proofs.Cutting.{runs_inside, runs_listed}
-use Rattle.chain.proofs.Directions.{All-segments_of, length-addresses_of}
+use Rattle.chain.proofs.Directions.{All-segments_of, len_of-le, length-addresses_of}
 use Rattle.chain.proofs.Partial.{wrote-unwritten}
 use Rattle.shared_memory.specs.Sightings.{Sightings, Stores, memory}
 use Rattle.shared_memory.proofs.Sightings.{interference_range}
@@ -26,56 +26,105 @@ use Rattle.racing_service.proofs.Standing.{scattered_range}
 
 -- ---- the runs of places
 
--- how many bytes runs have
-runs_len : List Segment → ℕ
-runs_len [] = 0
-runs_len (s ∷ ss) = s.len + runs_len ss
+-- a chain has fewer than 2^32 places to be read, or to be written
+pub few_places : (writable : Bool) (buffers : List Buffer) → total_len buffers < 2 ^ 32
+    → length (addresses_of writable buffers) < 2 ^ 32
+few_places writable buffers fits =
+    omega (arith, length-addresses_of writable buffers, len_of-le writable buffers, fits)
 
-runs_long : (runs : List Segment) → length (flat_map addresses runs) ≡ runs_len runs
-unfolding runs_len
-runs_long [] = refl
-runs_long (s ∷ ss) =
-    let first = length-range_with_len s.addr s.len in
-    let rest = runs_long ss in
-    let both = length-append (addresses s) (flat_map addresses ss) in
-    omega (arith, first, rest, both)
+-- the runs of so many places of one of a chain's two lists
+pub record AreRunsOf (writable : Bool) (buffers : List Buffer) (from n : ℕ) (runs : List Segment) : Type 0 where
+  pub are : runs ≡ runs_of from (from + n) (segments_of writable buffers)
+  pub fit : from + n ≤ len_of writable buffers
 
--- the runs of so many writable places
-pub record AreRunsOf (buffers : List Buffer) (from n : ℕ) (runs : List Segment) : Type 0 where
-  pub are : runs ≡ runs_of from (from + n) (segments_of true buffers)
-  pub fit : from + n ≤ length (writable_of buffers)
-
-runs_places : (buffers : List Buffer) (from n : ℕ) (runs : List Segment) → AreRunsOf buffers from n runs
-    → flat_map addresses runs ≡ take n (drop from (writable_of buffers))
-runs_places buffers from n runs h =
+runs_places : (writable : Bool) (buffers : List Buffer) (from n : ℕ) (runs : List Segment)
+    → AreRunsOf writable buffers from n runs → flat_map addresses runs ≡ take n (drop from (addresses_of writable buffers))
+runs_places writable buffers from n runs h =
     let whole : from + n - from ≡ n = omega arith in
-    let all = length-addresses_of true buffers in
     ap (flat_map addresses) h.are
-    ∙ runs_listed (from + n - from) (segments_of true buffers) from (from + n) (omega arith) (omega (arith, h.fit, all))
-    ∙ ap (λ k. take k (drop from (writable_of buffers))) whole
+    ∙ runs_listed (from + n - from) (segments_of writable buffers) from (from + n) (omega arith) h.fit
+    ∙ ap (λ k. take k (drop from (addresses_of writable buffers))) whole
 
--- they have as many bytes
-runs_count : (buffers : List Buffer) (from n : ℕ) (runs : List Segment) → AreRunsOf buffers from n runs
-    → length (flat_map addresses runs) ≡ n
-runs_count buffers from n runs h =
-    ap length (runs_places buffers from n runs h)
-    ∙ length-take-le n (drop from (writable_of buffers)) (omega (arith, length-drop from (writable_of buffers), h.fit))
+-- they have as many
+runs_count : (writable : Bool) (buffers : List Buffer) (from n : ℕ) (runs : List Segment)
+    → AreRunsOf writable buffers from n runs → length (flat_map addresses runs) ≡ n
+runs_count writable buffers from n runs h =
+    let addrs = addresses_of writable buffers in
+    ap length (runs_places writable buffers from n runs h)
+    ∙ length-take-le n (drop from addrs)
+    (omega (arith, length-drop from addrs, length-addresses_of writable buffers, h.fit))
 
 -- the places of the first runs, and those of the next one
-next_places : (runs : List Segment) (i : ℕ) (d : Segment) → i < length runs
+pub next_places : (runs : List Segment) (i : ℕ) (d : Segment) → i < length runs
     → flat_map addresses (take (i + 1) runs) ≡ flat_map addresses (take i runs) ++ addresses (get_or runs i d)
 next_places runs i d below =
     ap (flat_map addresses) (take_more runs i d below)
     ∙ flat_map-append addresses (take i runs) (get_or runs i d ∷ [])
     ∙ ap (λ l. flat_map addresses (take i runs) ++ l) (append-nil (addresses (get_or runs i d)))
 
--- the first ones have no more bytes than all
+-- the first ones have no more places than all
 first_count : (runs : List Segment) (i : ℕ) → length (flat_map addresses (take i runs)) ≤ length (flat_map addresses runs)
 first_count runs i =
     let split = ap (flat_map addresses) (take-append-drop i runs) in
     let parts = flat_map-append addresses (take i runs) (drop i runs) in
     let long = length-append (flat_map addresses (take i runs)) (flat_map addresses (drop i runs)) in
     omega (arith, ap length split, ap length parts, long)
+
+-- a run for an index past the last one
+abbrev pub blank : Segment
+blank = record { addr = 0; len = 0 }
+
+-- the first of these runs have so many places
+pub record AreFirst (writable : Bool) (buffers : List Buffer) (from n : ℕ) (runs : List Segment) (index done : ℕ) : Type 0 where
+  pub are : AreRunsOf writable buffers from n runs
+  pub done_is : done ≡ length (flat_map addresses (take index runs))
+
+module _ {writable : Bool} {buffers : List Buffer} {from n : ℕ} {runs : List Segment} {index done : ℕ}
+    (h : AreFirst writable buffers from n runs index done) where
+  -- and with the next one
+  pub first_more : index < length runs → AreFirst writable buffers from n runs (index + 1) (done + (get_or runs index blank).len)
+  first_more below =
+      let here = get_or runs index blank in
+      let next = ap length (next_places runs index blank below) in
+      let both = length-append (flat_map addresses (take index runs)) (addresses here) in
+      let long = length-range_with_len here.addr here.len in
+      record { are = h.are; done_is = omega (arith, h.done_is, next, both, long) }
+
+  -- which fits
+  pub run_fits : index < length runs → done + (get_or runs index blank).len ≤ n
+  run_fits below =
+      let more = first_more below in
+      let few = first_count runs (index + 1) in
+      omega (arith, more.done_is, few, runs_count writable buffers from n runs h.are)
+
+  -- and lies in the memory
+  pub run_inside : index < length runs → (old new : Memory) → All (Within old) buffers → SameRange old new
+      → Inside new (get_or runs index blank).addr (get_or runs index blank).len
+  run_inside below old new inside same =
+      let here = get_or runs index blank in
+      let each : All (λ (s : Segment). Inside old s.addr s.len) runs =
+      rw h.are.are (runs_inside old (segments_of writable buffers) from (from + n)
+      (All-segments_of old writable buffers inside)) in
+      inside_same old new here.addr here.len same (All-get_or (λ (s : Segment). Inside old s.addr s.len) runs index blank below each)
+
+  -- all of them
+  pub first_all : length runs ≤ index
+      → (done ≡ n) × (flat_map addresses (take index runs) ≡ take n (drop from (addresses_of writable buffers)))
+  first_all all =
+      let whole : take index runs ≡ runs = take_all index runs all in (
+        h.done_is ∙ ap (λ rs. length (flat_map addresses rs)) whole ∙ runs_count writable buffers from n runs h.are,
+        ap (flat_map addresses) whole ∙ runs_places writable buffers from n runs h.are,
+      )
+
+-- the part of a row that a run of n places is for
+pub part_is : (done n : ℕ) (row : List ℕ) → take (done + n - done) (drop done row) ≡ take n (drop done row)
+part_is done n row =
+    let same : done + n - done ≡ n = omega arith in
+    ap (λ (k : ℕ). take k (drop done row)) same
+
+pub part_long : (done n : ℕ) (row : List ℕ) → done + n ≤ length row → length (take (done + n - done) (drop done row)) ≡ n
+part_long done n row fits =
+    ap length (part_is done n row) ∙ length-take-le n (drop done row) (omega (arith, fits, length-drop done row))
 
 -- ---- bytes one after another
 
@@ -126,62 +175,35 @@ range_place a (suc n) (suc i) below =
     let same : a + 1 + i ≡ a + suc i = omega arith in
     range_place (a + 1) n i (omega (arith, below)) ∙ ap (λ (x : ℕ). x ∷ []) same
 
--- the bytes of the first runs were stored
-pub record AreStored (races : Bool) (old now : Sightings) (runs : List Segment) (index done : ℕ) (bytes : List ℕ) : Type 0 where
-  pub done_is : done ≡ length (flat_map addresses (take index runs))
+-- the bytes of the first of these runs were stored
+pub record AreStored (races : Bool) (old now : Sightings) (buffers : List Buffer) (from : ℕ) (bytes : List ℕ)
+    (runs : List Segment) (index done : ℕ) : Type 0 where
+  pub first : AreFirst true buffers from (length bytes) runs index done
   pub stored : StoresEach races old now (flat_map addresses (take index runs)) (take done bytes)
 
-module _ (buffers : List Buffer) (from : ℕ) (bytes : List ℕ) (runs : List Segment)
-    (are : AreRunsOf buffers from (length bytes) runs) where
-  -- the next one fits
-  pub run_fits : (races : Bool) (old now : Sightings) (index done : ℕ) (d : Segment)
-      → AreStored races old now runs index done bytes → index < length runs
-      → done + (get_or runs index d).len ≤ length bytes
-  run_fits races old now index done d h below =
-      let next = ap length (next_places runs index d below) in
-      let both = length-append (flat_map addresses (take index runs)) (addresses (get_or runs index d)) in
-      let one = length-range_with_len (get_or runs index d).addr (get_or runs index d).len in
-      let few = first_count runs (index + 1) in
-      omega (arith, next, both, one, few, runs_count buffers from (length bytes) runs are, h.done_is)
-
-  -- and lies in the memory
-  pub run_inside : (m n : Memory) (index : ℕ) (d : Segment) → Good m buffers → SameRange m n → index < length runs
-      → Inside n (get_or runs index d).addr (get_or runs index d).len
-  run_inside m n index d good same below =
-      let here = get_or runs index d in
-      let each : All (λ (s : Segment). Inside m s.addr s.len) runs =
-      rw are.are (runs_inside m (segments_of true buffers) from (from + length bytes)
-      (All-segments_of m true buffers good.inside)) in
-      inside_same m n here.addr here.len same (All-get_or (λ (s : Segment). Inside m s.addr s.len) runs index d below each)
-
-  pub run_stored : (races : Bool) (old now next : Sightings) (index done : ℕ) (d : Segment) (row : List ℕ)
-      → AreStored races old now runs index done bytes → index < length runs → row ≡ take (get_or runs index d).len (drop done bytes)
-      → StoresEach races now next (addresses (get_or runs index d)) row
-      → AreStored races old next runs (index + 1) (done + (get_or runs index d).len) bytes
-  run_stored races old now next index done d row h below is one =
-      let here = get_or runs index d in
-      let places = next_places runs index d below in
-      let both = length-append (flat_map addresses (take index runs)) (addresses here) in
-      let long = length-range_with_len here.addr here.len in
+module _ {races : Bool} {old now : Sightings} {buffers : List Buffer} {from : ℕ} {bytes : List ℕ} {runs : List Segment}
+    {index done : ℕ} (h : AreStored races old now buffers from bytes runs index done) where
+  pub run_stored : index < length runs → (next : Sightings) (row : List ℕ)
+      → row ≡ take (done + (get_or runs index blank).len - done) (drop done bytes)
+      → StoresEach races now next (range_with_len (get_or runs index blank).addr (length row)) row
+      → AreStored races old next buffers from bytes runs (index + 1) (done + (get_or runs index blank).len)
+  run_stored below next row is one =
+      let here = get_or runs index blank in
+      let long : length row ≡ here.len = ap length is ∙ part_long done here.len bytes (run_fits h.first below) in
       let rows : take (done + here.len) bytes ≡ take done bytes ++ row =
-      take-plus done here.len bytes ∙ ap (λ l. take done bytes ++ l) (sym is) in
+      take-plus done here.len bytes ∙ ap (λ l. take done bytes ++ l) (sym (is ∙ part_is done here.len bytes)) in
       record {
-        done_is = omega (arith, h.done_is, ap length places, both, long);
-        stored = rw (places, rows) (each_join races old now next (flat_map addresses (take index runs)) (take done bytes)
-            (addresses here) row h.stored one);
+        first = first_more h.first below;
+        stored = rw (next_places runs index blank below, rows) (each_join races old now next
+            (flat_map addresses (take index runs)) (take done bytes) (addresses here) row h.stored (rw long at one));
       }
 
   -- all of them
-  pub runs_stored : (races : Bool) (old now : Sightings) (index done : ℕ) → AreStored races old now runs index done bytes
-      → length runs ≤ index → StoresEach races old now (take (length bytes) (drop from (writable_of buffers))) bytes
-  runs_stored races old now index done h all =
-      let whole : take index runs ≡ runs = take_all index runs all in
-      let count = runs_count buffers from (length bytes) runs are in
-      let size : done ≡ length bytes = h.done_is ∙ ap (λ rs. length (flat_map addresses rs)) whole ∙ count in
-      let row : take done bytes ≡ bytes = take_all done bytes (omega (arith, size)) in
-      let addrs : flat_map addresses (take index runs) ≡ take (length bytes) (drop from (writable_of buffers)) =
-      ap (flat_map addresses) whole ∙ runs_places buffers from (length bytes) runs are in
-      rw (← addrs, ← row) h.stored
+  pub runs_stored : length runs ≤ index → StoresEach races old now (take (length bytes) (drop from (writable_of buffers))) bytes
+  runs_stored all =
+      let whole = first_all h.first all in
+      let row : take done bytes ≡ bytes = take_all done bytes (omega (arith, whole.0)) in
+      rw (← whole.1, ← row) h.stored
 
 -- ---- the parts of what is written
 

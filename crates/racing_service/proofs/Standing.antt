@@ -1,5 +1,5 @@
 -- What a device does with a chain: the range stays, and of a guest that stands still it is what the definitions of chain say.
-use Rattle.std.proofs.Common.{◌≡◌, ◌∙◌, ℕ, ◌+◌, ◌-◌, ◌≤◌, zero, suc, Bool, false, Option, Some, None, List, [], ◌∷◌, ◌++◌, take, drop, refl, sym, ap, subst, arith, append_assoc}
+use Rattle.std.proofs.Common.{◌≡◌, ◌∙◌, ℕ, ◌+◌, ◌-◌, ◌≤◌, zero, suc, Bool, false, Option, Some, None, List, [], ◌∷◌, ◌++◌, get_or, take, drop, refl, sym, ap, subst, arith, append_assoc}
 use Rattle.std.specs.Prelude.{All}
 use Rattle.std.specs.List.{AllByRecursion, flat_map, range_with_len}
 use Rattle.std.proofs.lemmas.List.Elements.{All-cons, All-head, All-nil, All-tail, recursion_from_All}
@@ -90,17 +90,13 @@ read_steady old new buffers readable inside steady seen =
     steady_is old new (addresses_of false buffers) readable each seen ∙ readable_at (memory old) buffers inside
 
 -- so it is of a guest that stands still
-still_steady : (old new : Sightings) (addrs : List ℕ) → Loads false old new → AllByRecursion (IsSteady old new) addrs
-still_steady old new [] loads = tt
-still_steady old new (a ∷ addrs) loads =
-    (λ k from to. ap (λ (m : Memory). part_of m a 1) (loads.interference k from to), still_steady old new addrs loads)
-
 pub read_still : (old new : Sightings) (buffers : List Buffer) (readable : List ℕ) → All (Within (memory old)) buffers
     → Loads false old new → AreBytesSeen old new (addresses_of false buffers) readable
     → readable ≡ readable_of (memory old) buffers
-read_still old new buffers readable inside loads seen =
-    let steady = still_steady old new (addresses_of false buffers) loads in
-    steady_is old new (addresses_of false buffers) readable steady seen ∙ readable_at (memory old) buffers inside
+read_still old new buffers readable inside loads =
+    read_steady old new buffers readable inside
+    (λ i d there k from to. ap (λ (m : Memory). part_of m (get_or (addresses_of false buffers) i d) 1)
+    (loads.interference k from to))
 
 -- ---- writing
 

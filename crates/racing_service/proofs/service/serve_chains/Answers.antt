@@ -9,7 +9,7 @@ use Rattle.racing_service.proofs.service.serve_chains.Goals as goal
 pub returns-then-is_spent-clause-serves : goal.returns-then-is_spent-clause-serves
 returns-then-is_spent-clause-serves g c =
     let same = c.loop-queue.invariant.setup in
-    paused _ _ _ _ _ _ _ _ _ _ _ _ _ c.loop-queue.invariant.round
+    paused _ _ _ _ _ _ _ _ _ c.loop-queue.invariant.round _ _ _ _
     (rw (← same) (sym c.takes.ensures ∙ c.loop-queue-test.true)) (c.is_spent.ensures.0 c.if-is_spent.true)
     c.take.ensures.loads (rw c.in-Ok-Some.field-0-is at c.in-Ok-Some.ensures.told)
     (rw c.in-Ok-Some.field-0-is at c.in-Ok-Some.ensures.offered) c.in-Ok-Some.ensures.same
@@ -17,7 +17,7 @@ returns-then-is_spent-clause-serves g c =
 pub loop-queue-preserved : goal.loop-queue-preserved
 loop-queue-preserved g c =
     let same = c.loop-queue.invariant.setup in record {
-      round = one_more _ _ _ _ _ _ _ _ _ _ _ _ _ _ _ _ _ _ _ _ c.loop-queue.invariant.round
+      round = one_more _ _ _ _ _ _ _ _ _ c.loop-queue.invariant.round _ _ _ _ _ _ _ _ _ _ _
           (rw (← same) (sym c.takes.ensures ∙ c.loop-queue-test.true))
           (some_left c.loop-queue.left c.is_spent.result c.is_spent.ensures c.if-is_spent.false) c.spend.ensures
           c.take.ensures.loads (rw c.in-Ok-Some.field-0-is at c.in-Ok-Some.ensures.told)
@@ -36,28 +36,28 @@ give-requires-clause-lies g c =
 
 pub returns-in-Ok-None-clause-serves : goal.returns-in-Ok-None-clause-serves
 returns-in-Ok-None-clause-serves g c =
-    not_offered _ _ _ _ _ _ _ _ _ _ _ _ c.run_out.ensures c.loop-queue.invariant.round
+    not_offered _ _ _ _ _ _ _ _ _ c.loop-queue.invariant.round _ _ _ c.run_out.ensures
     c.take.ensures.loads (rw c.in-Ok-None.field-0-is at c.in-Ok-None.ensures.told) c.in-Ok-None.ensures.same
 
 pub returns-in-Err-clause-serves : goal.returns-in-Err-clause-serves
 returns-in-Err-clause-serves g c =
     let same = c.loop-queue.invariant.setup in
-    broken _ _ _ _ _ _ _ _ _ _ _ _ c.loop-queue.invariant.round
+    broken _ _ _ _ _ _ _ _ _ c.loop-queue.invariant.round _ _ _
     (rw (← same) (sym c.takes.ensures ∙ c.loop-queue-test.true)) c.take.ensures.loads
     c.in-Err.ensures.faulty c.in-Err.ensures.stopped
 
 pub returns-clause-serves : goal.returns-clause-serves
 returns-clause-serves g c =
     let same = c.loop-queue.invariant.setup in
-    unwanted _ _ _ _ _ _ _ _ _ _ c.run_out-2.ensures c.loop-queue.invariant.round
+    unwanted _ _ _ _ _ _ _ _ _ c.loop-queue.invariant.round _ c.run_out-2.ensures
     (rw (← same) (sym c.takes.ensures ∙ c.loop-queue-test.false))
 
 pub returns-in-Err-serve-clause-leaves : goal.returns-in-Err-serve-clause-leaves
 returns-in-Err-serve-clause-leaves g c =
     let same = c.loop-queue.invariant.setup in
-    left_there _ _ _ _ _ _ _ _ _ _ _ _ _ _ _ _
+    left_there _ _ _ _ _ _ _ _ _ c.loop-queue.invariant.round _ _ _ _ _ _ _
     (g.D.RacingDevice.Refuses (g.D.RacingDevice.setup c.args.device.now c.args.backend.now) c.serve.new.backend)
-    c.in-Err-serve.why c.loop-queue.invariant.round
+    c.in-Err-serve.why
     (rw (← same) (sym c.takes.ensures ∙ c.loop-queue-test.true))
     (some_left c.loop-queue.left c.is_spent.result c.is_spent.ensures c.if-is_spent.false) c.spend.ensures
     c.take.ensures.loads (rw c.in-Ok-Some.field-0-is at c.in-Ok-Some.ensures.told)

@@ -6,7 +6,7 @@ use Rattle.racing_service.proofs.storing.store_in_chain.Given as goal
 -- the bytes of the first runs were stored
 abbrev pub invariant-loop-run : goal.invariant-loop-run
 invariant-loop-run g l = record {
-  rows : AreStored g.M.Shared.races (g.M.Shared.sightings l.fn.mem) (g.M.Shared.sightings l.mem) l.runs
-      l.run-index l.done l.bytes;
+  rows : AreStored g.M.Shared.races (g.M.Shared.sightings l.fn.mem) (g.M.Shared.sightings l.mem) l.chain l.from l.bytes
+      l.runs l.run-index l.done;
   range : SameRange (memory (g.M.Shared.sightings l.fn.mem)) (memory (g.M.Shared.sightings l.mem));
 }
