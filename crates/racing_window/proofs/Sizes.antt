@@ -15,7 +15,7 @@ use Rattle.mmio_window.specs.declared.queue.Queue.{Queue}
 use Rattle.mmio_window.specs.declared.queue.Queue.TheVariants.{Split, Packed}
 use Rattle.mmio_window.specs.declared.queue_registers.QueueRegisters.{QueueRegisters}
 use Rattle.mmio_window.specs.Queue.{LiesIn, made_as}
-use Rattle.mmio_window.specs.QueueRegisters.{packed_ring_of, ring_of, setup_of, split_ring_of}
+use Rattle.mmio_window.specs.QueueRegisters.{packed_ring_of, setup_of, split_ring_of}
 use Rattle.mmio_window.specs.Soundness.{IsRingOf, IsSound}
 use Rattle.mmio_window.specs.Window.{WindowState, queue_at, registers_of}
 use Rattle.mmio_window.proofs.Soundness.{ready_queue_is_its_ring}

@@ -1,5 +1,5 @@
 -- A service of a guest that stands still, of one round, is one service of a window.
-use Rattle.std.proofs.Common.{◌≡◌, ◌∙◌, ℕ, Bool, true, false, Option, Some, None, List, [], ◌∷◌, refl, sym, ap, subst}
+use Rattle.std.proofs.Common.{◌≡◌, ℕ, Bool, false, Some, [], ◌∷◌, refl}
 use Rattle.chain.specs.declared.budget.Budget.{Budget}
 use Rattle.chain.specs.declared.budget.Progress.{Progress}
 use Rattle.chain.specs.declared.fault.Fault.{Fault}
@@ -9,7 +9,7 @@ use Rattle.mmio_window.specs.declared.queue.Queue.{Queue}
 use Rattle.mmio_window.specs.Queue.{queue_kind}
 use Rattle.mmio_window.specs.Serving as still
 use Rattle.mmio_window.specs.Soundness.{IsSound}
-use Rattle.mmio_window.specs.Window.{WindowState, queue_at, with_ring}
+use Rattle.mmio_window.specs.Window.{WindowState, queue_at}
 use Rattle.shared_memory.specs.Sightings.{Sightings, memory}
 use Rattle.racing_service.specs.declared.stage.Stage.TheVariants.{First}
 use Rattle.racing_service.specs.declared.service.Ending.{Ending}
@@ -48,32 +48,35 @@ module _ {State : Type 0} (device : Device State) where
       rw (← same, ends.wanted_is) one
   breaks More most a b wanted fault is sound service only = cc
 
-  pub settled_once : (most q : ℕ) (budget : Budget) (queue : Queue) (progress : Progress) (old new : Sightings)
-      (before after : WindowState) (s s' : State) (r : Round Queue State)
+  -- what the window shows is what it shows of that service
+  module _ (most q : ℕ) (budget : Budget) (queue : Queue) (progress : Progress) (old new : Sightings)
+      (before after : WindowState) (s s' : State)
       (serves : ServesQueue device false most q budget queue progress old new before after s s')
-      → IsSound (memory old) before → queue_at q before ≡ Some queue → serves.ending ≡ Settled
-      → serves.service.rounds ≡ r ∷ []
-      → still.ServesQueue device q queue Spent (memory old) (memory new) before after s s'
-  settled_once most q budget queue progress old new before after s s' r serves sound at ending only = record {
-    last = serves.last;
-    wanted = serves.wanted;
-    service = settles serves.ending most (standing_at old queue s budget) (standing_at new serves.last s' serves.left)
-        serves.wanted r ending (sound_queue (memory old) before q queue sound at) serves.service only;
-    window = serves.window ∙ ap (λ (e : Ending). still.after_service (still.ending_of (fault_of e)) serves.wanted
-        (with_ring q before serves.last)) ending;
-  }
+      (sound : IsSound (memory old) before) (at : queue_at q before ≡ Some queue) where
+    abbrev first : Standing Queue State
+    first = standing_at old queue s budget
 
-  pub broken_once : (most q : ℕ) (budget : Budget) (queue : Queue) (progress : Progress) (old new : Sightings)
-      (before after : WindowState) (s s' : State) (fault : Fault)
-      (serves : ServesQueue device false most q budget queue progress old new before after s s')
-      → IsSound (memory old) before → queue_at q before ≡ Some queue → serves.ending ≡ Faulted fault
-      → serves.service.rounds ≡ []
-      → still.ServesQueue device q queue (chain.Faulted fault) (memory old) (memory new) before after s s'
-  broken_once most q budget queue progress old new before after s s' fault serves sound at ending only = record {
-    last = serves.last;
-    wanted = serves.wanted;
-    service = breaks serves.ending most (standing_at old queue s budget) (standing_at new serves.last s' serves.left)
-        serves.wanted fault ending (sound_queue (memory old) before q queue sound at) serves.service only;
-    window = serves.window ∙ ap (λ (e : Ending). still.after_service (still.ending_of (fault_of e)) serves.wanted
-        (with_ring q before serves.last)) ending;
-  }
+    abbrev behind : Standing Queue State
+    behind = standing_at new serves.last s' serves.left
+
+    shown : (ending : Ending) → serves.ending ≡ ending
+        → IsService queue_kind device (site_of first) (site_of behind) (still.ending_of (fault_of ending)) serves.wanted
+        → still.ServesQueue device q queue (still.ending_of (fault_of ending)) (memory old) (memory new) before after s s'
+    shown ending is service = record {
+      last = serves.last;
+      wanted = serves.wanted;
+      service = service;
+      window = rw is at serves.window;
+    }
+
+    pub settled_once : (r : Round Queue State) → serves.ending ≡ Settled → serves.service.rounds ≡ r ∷ []
+        → still.ServesQueue device q queue Spent (memory old) (memory new) before after s s'
+    settled_once r is only =
+        shown Settled is (settles serves.ending most first behind serves.wanted r is
+        (sound_queue (memory old) before q queue sound at) serves.service only)
+
+    pub broken_once : (fault : Fault) → serves.ending ≡ Faulted fault → serves.service.rounds ≡ []
+        → still.ServesQueue device q queue (chain.Faulted fault) (memory old) (memory new) before after s s'
+    broken_once fault is only =
+        shown (Faulted fault) is (breaks serves.ending most first behind serves.wanted fault is
+        (sound_queue (memory old) before q queue sound at) serves.service only)

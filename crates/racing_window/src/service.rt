@@ -3,14 +3,11 @@
 ghost use Rattle.std.specs.Prelude.{◌≡◌, IfOk, IfErr, IfSome, OnErr};
 ghost use Rattle.chain.specs.Buffers.{Good};
 ghost use Rattle.mmio_window.specs.FaultNote.{fault_in};
-ghost use Rattle.mmio_window.specs.Queue.{IsTaken, LiesIn, entry_of, made_as};
+ghost use Rattle.mmio_window.specs.Queue.{IsTaken};
 ghost use Rattle.mmio_window.specs.Soundness.{IsSound};
 ghost use Rattle.mmio_window.specs.Window.{queue_at};
 ghost use Rattle.guest_memory.specs.Memory.{SameRange};
 ghost use Rattle.shared_memory.specs.Sightings.{memory};
-ghost use Rattle.racing_service.specs.declared.stage.Stage.TheVariants.{First};
-ghost use Rattle.racing_service.specs.Service.{IsRacingService, IsRefusedService, standing_at};
-ghost use Rattle.racing_window.specs.Queue.{racing_queue};
 ghost use Rattle.racing_window.specs.Serving.{IsLeft, Notified, fault_of, met_at, met_with};
 
 use crate::ring::RacingRing;
@@ -52,45 +49,6 @@ pub fn serve_queue<B, D: RacingDevice<B>, M: Shared>(
     let Some(queue) = window.queue(q) else {
         return Ok(Progress::Done);
     };
-    let Outcome { ending, wanted, .. } = serve_ready(
-        queue, device, backend, mem, limits, chain, room,
-    )?;
-    let fault = met_with(queue, ending);
-    show(window, q, Left::Closed { fault, wanted }, chain);
-    if matches!(ending, Ending::More) {
-        chain.count_pause();
-    }
-    Ok(ending.progress())
-}
-
-/// Serves a ready queue once.
-fn serve_ready<B, D: RacingDevice<B>, M: Shared>(
-    queue: &mut Queue,
-    device: &mut D,
-    backend: &mut B,
-    mem: &mut M,
-    limits: Limits,
-    chain: &mut Chain,
-    room: &mut Room,
-) -> Result<Outcome, Refused<Token, D::Refusal>>
-    requires queue { LiesIn (memory (M.sightings mem.old)) queue.old }
-    requires ready { D.IsReady device.old backend.old }
-    ensures service { IfOk result (λ outcome. IsRacingService racing_queue (D.device (D.setup device.old backend.old)) M.races First limits.rounds
-        (standing_at (M.sightings mem.old) queue.old (D.state device.old backend.old) limits.budget)
-        (standing_at (M.sightings mem.new) queue.new (D.state device.new backend.new) outcome.left)
-        outcome.ending outcome.wanted) }
-    ensures refuses { IfErr result (λ refused. IsRefusedService racing_queue (D.device (D.setup device.old backend.old)) M.races
-        (D.Refuses (D.setup device.old backend.old) backend.new) First limits.rounds
-        (standing_at (M.sightings mem.old) queue.old (D.state device.old backend.old) limits.budget)
-        (standing_at (M.sightings mem.new) queue.new (D.state device.new backend.new) refused.left)
-        chain.new (entry_of refused.token) refused.why refused.wanted) }
-    ensures taken { IfErr result (λ refused. IsTaken queue.new refused.token) }
-    ensures good { OnErr result (Good (memory (M.sightings mem.new)) chain.new) }
-    ensures setup { D.setup device.new backend.new ≡ D.setup device.old backend.old }
-    ensures ready { D.IsReady device.new backend.new }
-    ensures range { SameRange (memory (M.sightings mem.old)) (memory (M.sightings mem.new)) }
-    ensures made { made_as queue.new ≡ made_as queue.old }
-{
     let mut ring = RacingRing::of(queue);
     let served = serve(
         device,
@@ -103,7 +61,13 @@ fn serve_ready<B, D: RacingDevice<B>, M: Shared>(
         room,
     );
     *queue = ring.queue();
-    served
+    let Outcome { ending, wanted, .. } = served?;
+    let fault = met_with(queue, ending);
+    show(window, q, Left::Closed { fault, wanted }, chain);
+    if matches!(ending, Ending::More) {
+        chain.count_pause();
+    }
+    Ok(ending.progress())
 }
 
 /// The fault of an ending, if it has one, and where in its queue that is: what a window notes of it. The queue is closed.
