@@ -11,14 +11,14 @@ use Rattle.chain.specs.declared.segment.Segment.{Segment}
 use Rattle.chain.specs.Buffers.{Good}
 use Rattle.chain.specs.Bytes.{addresses, addresses_of, len_of, readable_of, segments_of, writable_of}
 use Rattle.chain.specs.Service.{used_len}
-use Rattle.chain.proofs.Directions.{All-segments_of, length-addresses_of, length-readable_of, len_of-append, segments_of-append}
+use Rattle.chain.proofs.Directions.{length-addresses_of, length-readable_of, len_of-append, segments_of-append}
 use Rattle.chain.proofs.Partial.{unwritten, wrote-unwritten}
 use Rattle.shared_memory.specs.Sightings.{Sightings, Loads, memory}
 use Rattle.shared_memory.proofs.Sightings.{inside_loads, loads_none, loads_trans, seen_last}
 use Rattle.console_device.specs.declared.no_memory.NoMemory.{NoMemory}
 use Rattle.console_device.specs.Device.{Fits, MayRefuse, transmit_within}
 use Rattle.racing_service.specs.Device.{DoesRaced, RefusesRaced}
-use Rattle.racing_service.proofs.Seeing.{bytes_count, bytes_later, bytes_sooner, part_seen, seen_append, segments_seen}
+use Rattle.racing_service.proofs.Seeing.{bytes_count, bytes_later, bytes_sooner, part_seen, readable_seen, seen_append}
 use Rattle.racing_console.specs.Output.{IsPutOut, NoRoom}
 
 -- ---- what is put out
@@ -227,7 +227,7 @@ transmit_refused limit races old new buffers out why same good some refused =
     rw same (record {
       readable = readable;
       reads = loads_none races old;
-      each_read = segments_seen old (segments_of false buffers) (All-segments_of (memory old) false buffers good.inside);
+      each_read = readable_seen old buffers good;
       refuses = (not_empty readable (omega (arith, some, long)), rw long refused);
     })
 

@@ -1,22 +1,21 @@
 -- Pending input that is stored in a chain, byte after byte.
-use Rattle.std.proofs.Common.{◌≡◌, ◌∙◌, ℕ, ◌+◌, ◌-◌, ◌^◌, ◌<◌, ◌≤◌, nat_lt, Bool, true, false, Some, None, List, ◌++◌, length, map, take, drop, replicate, refl, sym, ap, arith, length-append}
+use Rattle.std.proofs.Common.{◌≡◌, ◌∙◌, ℕ, ◌+◌, ◌-◌, ◌^◌, ◌<◌, nat_lt, Bool, true, Some, None, List, ◌++◌, length, map, take, drop, replicate, refl, sym, ap, arith, length-append}
 use Rattle.std.specs.Prelude.{min}
 use Rattle.std.proofs.lemmas.List.{drop_min, length-take}
 use Rattle.std.proofs.Math.Seq.{take-add}
 use Rattle.guest_memory.specs.Memory.{Memory}
 use Rattle.chain.specs.declared.segment.Buffer.{Buffer}
 use Rattle.chain.specs.Buffers.{Good}
-use Rattle.chain.specs.Bytes.{readable_of, scatter, segments_of, writable_of}
+use Rattle.chain.specs.Bytes.{readable_of, scatter, writable_of}
 use Rattle.chain.specs.Service.{Given}
-use Rattle.chain.proofs.Directions.{All-segments_of, len_of-le, length-addresses_of}
 use Rattle.shared_memory.specs.Sightings.{Sightings, memory}
 use Rattle.shared_memory.proofs.Sightings.{loads_none}
 use Rattle.console_device.specs.Device.{receive}
 use Rattle.console_device.proofs.Receiving.{receive_does, take-append, take_fewer}
 use Rattle.racing_service.specs.Device.{DoesRaced}
 use Rattle.racing_service.specs.Storing.{StoresEach, StoresSome}
-use Rattle.racing_service.proofs.Seeing.{segments_seen}
-use Rattle.racing_service.proofs.Rows.{each_join, first_some}
+use Rattle.racing_service.proofs.Seeing.{readable_seen}
+use Rattle.racing_service.proofs.Rows.{each_join, few_places, first_some}
 
 -- ---- the two parts of the ring
 
@@ -24,12 +23,6 @@ use Rattle.racing_service.proofs.Rows.{each_join, first_some}
 module _ (front back pending addrs : List ℕ) (places from_front from_back : ℕ) (all : places ≡ length addrs)
     (joined : front ++ back ≡ pending) (f : from_front ≡ min (length front) places)
     (b : from_back ≡ min (length back) (places - from_front)) where
-  pub first_fits : 0 + length (take from_front front) ≤ length addrs
-  first_fits = omega (arith, length-take from_front front, f, all)
-
-  pub second_fits : from_front + length (take from_back back) ≤ length addrs
-  second_fits = omega (arith, length-take from_back back, f, b, all)
-
   pub bytes_both : take from_front front ++ take from_back back ≡ take (length addrs) pending
   bytes_both =
       let some = take_fewer from_front places front f in
@@ -61,14 +54,7 @@ module _ (front back pending addrs : List ℕ) (places from_front from_back : �
 pub few_received : (m : Memory) (buffers : List Buffer) (pending : List ℕ) (count : ℕ) → Good m buffers
     → count ≡ length (take (length (writable_of buffers)) pending) → count < 2 ^ 32
 few_received m buffers pending count good is =
-    omega (
-      arith,
-      is,
-      length-take (length (writable_of buffers)) pending,
-      length-addresses_of true buffers,
-      len_of-le true buffers,
-      good.fits,
-    )
+    omega (arith, is, length-take (length (writable_of buffers)) pending, few_places true buffers good.fits)
 
 pub left_of_input : (count w : ℕ) (pending : List ℕ) → count ≡ length (take w pending) → drop count pending ≡ drop w pending
 left_of_input count w pending is =
@@ -94,7 +80,7 @@ receive_raced races old new buffers pending left count good count_is stored left
       written = d.written;
       read_to = old;
       reads = loads_none races old;
-      each_read = segments_seen old (segments_of false buffers) (All-segments_of (memory old) false buffers good.inside);
+      each_read = readable_seen old buffers good;
       gives = d.gives;
       each = d.each;
       parts = some.parts;

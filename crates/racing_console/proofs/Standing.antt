@@ -4,31 +4,19 @@ use Rattle.guest_memory.specs.Memory.{Memory}
 use Rattle.chain.specs.declared.segment.Buffer.{Buffer}
 use Rattle.chain.specs.Buffers.{Good}
 use Rattle.chain.specs.Bytes.{readable_of, writable_of}
-use Rattle.chain.specs.Service.{Does, Entry}
+use Rattle.chain.specs.Service.{Entry}
 use Rattle.shared_memory.specs.Sightings.{Sightings, memory}
 use Rattle.console_device.specs.declared.no_memory.NoMemory.{NoMemory}
-use Rattle.console_device.specs.Device.{receive, transmit_within}
-use Rattle.racing_service.specs.Device.{DoesRaced, RefusesRaced}
+use Rattle.console_device.specs.Device.{transmit_within}
+use Rattle.racing_service.specs.Device.{RefusesRaced}
 use Rattle.racing_service.specs.Queue.{RacingKind}
 use Rattle.racing_service.specs.declared.stage.Stage.TheVariants.{First}
 use Rattle.racing_service.specs.Service.{Round, RunsUpTo, Standing, stage_behind}
 use Rattle.racing_service.specs.Laws.{site_of}
-use Rattle.racing_service.proofs.Standing.{does_still, read_still}
+use Rattle.racing_service.proofs.Standing.{read_still}
 use Rattle.racing_service.proofs.Rounds.{StandsStill, all_services, left_service}
 use Rattle.racing_console.specs.Output.{NoRoom}
 use Rattle.racing_console.specs.Serving.{EndsFull, IsFull}
-
-pub transmit_still : (limit : Option ℕ) (old new : Sightings) (buffers : List Buffer) (out after : List ℕ) (len : ℕ) (any : Bool)
-    → Good (memory old) buffers → DoesRaced (transmit_within limit) false old new buffers out after len any
-    → Does (transmit_within limit) (memory old) (memory new) buffers out after len any
-transmit_still limit old new buffers out after len any good d =
-    does_still (transmit_within limit) old new buffers out after len any good.inside d
-
-pub receive_still : (old new : Sightings) (buffers : List Buffer) (pending left : List ℕ) (len : ℕ) (any : Bool)
-    → Good (memory old) buffers → DoesRaced receive false old new buffers pending left len any
-    → Does receive (memory old) (memory new) buffers pending left len any
-receive_still old new buffers pending left len any good d =
-    does_still receive old new buffers pending left len any good.inside d
 
 pub refused_still : (limit : Option ℕ) (old new : Sightings) (buffers : List Buffer) (out : List ℕ) (why : NoMemory)
     → Good (memory old) buffers → RefusesRaced (NoRoom limit) false old new buffers out why

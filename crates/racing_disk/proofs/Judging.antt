@@ -1,17 +1,14 @@
 -- A request that was judged by one copy of its readable list.
 use Rattle.std.proofs.Common.{◌≡◌, ◌∙◌, ◌⊎◌, inl, inr, ℕ, zero, suc, ◌+◌, ◌≤◌, ◌<◌, false, Bool, List, [], ◌∷◌, ◌++◌, length, take, drop, refl, sym, ap, subst, arith, nat_lt, length-drop}
-use Rattle.std.specs.Prelude.{All, true}
-use Rattle.std.specs.List.{flat_map}
+use Rattle.std.specs.Prelude.{true}
 use Rattle.std.proofs.lemmas.Bool.Decides.{nat_tests}
 use Rattle.std.proofs.lemmas.List.{drop_at, length-take-le, take-append-drop, take_all, take_at}
-use Rattle.std.proofs.lemmas.List.Elements.{All-head, All-tail}
 use Rattle.byteorder.specs.Endian.{little_number}
-use Rattle.guest_memory.specs.Memory.{Inside, part_of}
 use Rattle.chain.specs.declared.segment.Buffer.{Buffer}
 use Rattle.chain.specs.declared.segment.Segment.{Segment}
 use Rattle.chain.specs.Buffers.{Good}
-use Rattle.chain.specs.Bytes.{addresses, addresses_of, len_of, readable_of, segments_of}
-use Rattle.chain.proofs.Directions.{All-segments_of, length-addresses_of, length-readable_of}
+use Rattle.chain.specs.Bytes.{addresses_of, len_of, readable_of}
+use Rattle.chain.proofs.Directions.{length-addresses_of, length-readable_of}
 use Rattle.shared_memory.specs.Sightings.{Sightings, Loads, memory}
 use Rattle.shared_memory.proofs.Sightings.{loads_none, loads_range}
 use Rattle.block_device.specs.declared.device.BlockDevice.{BlockDevice}
@@ -24,27 +21,13 @@ use Rattle.block_device.specs.Operation.{zeroes_in}
 use Rattle.block_device.specs.Request.{AreRead, payload_of, write_zeroes_request_of}
 use Rattle.block_device.specs.Zeroes.{are_segments}
 use Rattle.racing_service.specs.Device.{AreBytesSeen}
-use Rattle.racing_service.proofs.Seeing.{bytes_count, bytes_later, bytes_sooner, part_seen, seen_append}
+use Rattle.racing_service.proofs.Seeing.{bytes_count, bytes_later, bytes_sooner, readable_seen, seen_append}
 use Rattle.racing_service.proofs.Standing.{good_same}
 use Rattle.racing_disk.specs.Copying.{HasPayload, IsCopy, IsHeader}
 use Rattle.racing_disk.specs.Segments.{HasSegments}
 use Rattle.racing_disk.specs.Judging.{IsJudged, IsZeroing}
 
--- ---- the readable list as it stands at one access
-
-segments_seen : (s : Sightings) (segments : List Segment) → All (λ (r : Segment). Inside (memory s) r.addr r.len) segments
-    → AreBytesSeen s s (flat_map addresses segments) (flat_map (λ (r : Segment). part_of (memory s) r.addr r.len) segments)
-segments_seen s [] inside = tt
-segments_seen s (r ∷ segments) inside =
-    seen_append s s (addresses r) (flat_map addresses segments) (part_of (memory s) r.addr r.len)
-    (flat_map (λ (r : Segment). part_of (memory s) r.addr r.len) segments)
-    (part_seen s s (memory s) r.addr r.len (record { place = s.now; from = omega arith; to = omega arith; is = refl })
-    (All-head (λ (r : Segment). Inside (memory s) r.addr r.len) r segments inside))
-    (segments_seen s segments (All-tail (λ (r : Segment). Inside (memory s) r.addr r.len) r segments inside))
-
-pub readable_seen : (s : Sightings) (buffers : List Buffer) → Good (memory s) buffers
-    → IsCopy s s buffers (readable_of (memory s) buffers)
-readable_seen s buffers good = segments_seen s (segments_of false buffers) (All-segments_of (memory s) false buffers good.inside)
+-- ---- what is behind the header, as it stands at one access
 
 bytes_drop : (a b : Sightings) (n : ℕ) (addrs bytes : List ℕ) → AreBytesSeen a b addrs bytes
     → AreBytesSeen a b (drop n addrs) (drop n bytes)
@@ -54,7 +37,6 @@ bytes_drop a b (suc n) [] (x ∷ bytes) seen = absurd seen
 bytes_drop a b (suc n) (at ∷ addrs) [] seen = absurd seen
 bytes_drop a b (suc n) (at ∷ addrs) (x ∷ bytes) seen = bytes_drop a b n addrs bytes seen.1
 
--- what is behind the header, as it stands at one access
 pub payload_seen : (s : Sightings) (buffers : List Buffer) → Good (memory s) buffers
     → AreBytesSeen s s (drop 16 (addresses_of false buffers)) (drop 16 (readable_of (memory s) buffers))
 payload_seen s buffers good =

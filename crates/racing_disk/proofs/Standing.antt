@@ -1,10 +1,9 @@
 -- A guest that stands still.
 use Rattle.std.proofs.Common.{Bool, ◌≡◌, ◌∙◌, ℕ, ◌+◌, false, true, List, [], ◌∷◌, length, refl, sym, ap, subst}
-use Rattle.std.specs.Prelude.{All}
 use Rattle.guest_memory.specs.Memory.{Memory, put}
 use Rattle.chain.specs.declared.segment.Buffer.{Buffer}
 use Rattle.chain.specs.declared.segment.Segment.{Segment}
-use Rattle.chain.specs.Buffers.{Good, Within}
+use Rattle.chain.specs.Buffers.{Good}
 use Rattle.chain.specs.Bytes.{readable_of, writable_of}
 use Rattle.chain.specs.Service.{Does}
 use Rattle.shared_memory.specs.Sightings.{Sightings, Loads, memory}
@@ -27,19 +26,14 @@ use Rattle.racing_disk.specs.Completing.{IsCompleted}
 use Rattle.racing_disk.specs.Judging.{IsJudged}
 use Rattle.racing_disk.specs.Telling.{IsLeft}
 
--- what was copied is what stands there
-pub copy_still : (old new : Sightings) (buffers : List Buffer) (readable : List ℕ) → All (Within (memory old)) buffers
-    → Loads false old new → IsCopy old new buffers readable → readable ≡ readable_of (memory old) buffers
-copy_still old new buffers readable inside loads copy = read_still old new buffers readable inside loads copy
-
--- so the request is that of the one memory
+-- the request is that of the one memory
 pub request_still : (device : BlockDevice) (old new : Sightings) (buffers : List Buffer) (room : ℕ) (request : Request)
     (runs : List Segment) → Good (memory old) buffers → Loads false old new
     → IsJudged device old new buffers room request runs
     → request ≡ request_of device (readable_of (memory old) buffers) room
 request_still device old new buffers room request runs good loads j =
     j.judged.is ∙ ap (λ (l : List ℕ). request_of device l room)
-    (copy_still old new buffers j.readable good.inside loads j.copy)
+    (read_still old new buffers j.readable good.inside loads j.copy)
 
 -- and what the host is told, too
 pub told_still : (device : BlockDevice) (old new : Sightings) (buffers : List Buffer) (room : ℕ) (request : Request)
@@ -48,7 +42,7 @@ pub told_still : (device : BlockDevice) (old new : Sightings) (buffers : List Bu
     → length (writable_of buffers) ≡ room + 1 → asks_image request ≡ true
     → IsToldToHost device (memory old) buffers request runs
 told_still device old new buffers room request runs good loads j all asks =
-    let same = copy_still old new buffers j.readable good.inside loads j.copy in
+    let same = read_still old new buffers j.readable good.inside loads j.copy in
     record {
       asked = record {
         room = room;

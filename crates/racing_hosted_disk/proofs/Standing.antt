@@ -3,14 +3,13 @@ use Rattle.std.proofs.Common.{◌≡◌, ◌∙◌, ℕ, Bool, true, false, List
 use Rattle.guest_memory.specs.Memory.{Memory, SameRange, put}
 use Rattle.guest_memory.proofs.Ranges.{put_range}
 use Rattle.chain.specs.declared.segment.Buffer.{Buffer}
-use Rattle.chain.specs.Bytes.{readable_of, segments_of}
-use Rattle.chain.proofs.Directions.{All-segments_of}
+use Rattle.chain.specs.Bytes.{readable_of}
 use Rattle.chain.specs.Service.{Entry}
 use Rattle.shared_memory.specs.Sightings.{Sightings, memory, still}
 use Rattle.shared_memory.proofs.Sightings.{loads_none}
 use Rattle.block_device.specs.Hosting.{hosted_device}
 use Rattle.racing_service.proofs.LeftAlone.{LeftLaws, left_at_once}
-use Rattle.racing_service.proofs.Seeing.{segments_seen}
+use Rattle.racing_service.proofs.Seeing.{readable_seen}
 use Rattle.racing_disk.specs.Telling.{IsLeft}
 use Rattle.block_device.specs.declared.device.BlockDevice.{BlockDevice}
 use Rattle.block_device.specs.declared.operation.Verdict.{Verdict}
@@ -21,8 +20,8 @@ use Rattle.racing_service.specs.declared.stage.Stage.{Stage}
 use Rattle.racing_service.specs.Queue.{RacingKind}
 use Rattle.racing_service.specs.Service.{Standing}
 use Rattle.racing_service.proofs.Rounds.{StandsStill}
-use Rattle.racing_service.proofs.Standing.{one_still}
-use Rattle.racing_disk.proofs.Standing.{copy_still, left_still, runs_still, told_still}
+use Rattle.racing_service.proofs.Standing.{one_still, read_still}
+use Rattle.racing_disk.proofs.Standing.{left_still, runs_still, told_still}
 use Rattle.racing_hosted_disk.specs.Laws.{IsAskedAlone, IsToldOf, LandsAsOne, moment_asked}
 use Rattle.racing_hosted_disk.specs.Looking.{AsksIn, Place}
 use Rattle.block_device.specs.Tags.{InFlight}
@@ -44,7 +43,7 @@ module _ {Ring T : Type 0} (kind : RacingKind Ring) (IsSound : Memory → Ring �
       let seen : memory one.taken ≡ memory up.at.sightings = one_still up.at.sightings one.taken one.loads in
       let offered = stands.offered up.at.sightings one.taken up.at.ring buffers entry one.loads one.offered in
       let copied : one.refuses.readable ≡ readable_of (memory one.taken) buffers =
-      copy_still one.taken finds.at.sightings buffers one.refuses.readable good.inside one.refuses.reads
+      read_still one.taken finds.at.sightings buffers one.refuses.readable good.inside one.refuses.reads
       one.refuses.each_read in
       let are : here.runs ≡ runs_by finds.request one.refuses.readable buffers =
       finds.runs_are one.refuses.readable one.refuses.refuses in
@@ -125,7 +124,7 @@ module _ {Ring T : Type 0} {kind : RacingKind Ring}
             (loads_none false (still m))
             (record {
               readable = readable_of m buffers;
-              copy = segments_seen (still m) (segments_of false buffers) (All-segments_of m false buffers good.inside);
+              copy = readable_seen (still m) buffers good;
               judged = once.refuses.judged;
             }) once.refuses.all finds.asks;
         operation_is = finds.operation_is;

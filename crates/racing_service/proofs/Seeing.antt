@@ -9,7 +9,7 @@ use Rattle.guest_memory.proofs.Ranges.{inside_part, length-part_of}
 use Rattle.chain.specs.declared.segment.Buffer.{Buffer}
 use Rattle.chain.specs.declared.segment.Segment.{Segment}
 use Rattle.chain.specs.Buffers.{Good}
-use Rattle.chain.specs.Bytes.{addresses, readable_of, segments_of, writable_of}
+use Rattle.chain.specs.Bytes.{addresses, addresses_of, readable_of, segments_of, writable_of}
 use Rattle.chain.specs.Service.{Device, used_len}
 use Rattle.chain.proofs.Directions.{All-segments_of}
 use Rattle.chain.proofs.Partial.{wrote-unwritten}
@@ -78,8 +78,7 @@ module _ (old new : Sightings) where
       subst (AreBytesSeen old new (a ∷ range_with_len (a + 1) n)) (sym is)
       (record { where_read = m; seen = seen; is = byte.1 }, part_seen m (a + 1) n seen later)
 
--- the readable list as it stands at one access
-pub segments_seen : (s : Sightings) (segments : List Segment) → All (λ r. Inside (memory s) r.addr r.len) segments
+segments_seen : (s : Sightings) (segments : List Segment) → All (λ r. Inside (memory s) r.addr r.len) segments
     → AreBytesSeen s s (flat_map addresses segments) (flat_map (λ r. part_of (memory s) r.addr r.len) segments)
 segments_seen s [] inside = tt
 segments_seen s (r ∷ segments) inside =
@@ -88,6 +87,11 @@ segments_seen s (r ∷ segments) inside =
     (part_seen s s (memory s) r.addr r.len (record { place = s.now; from = omega arith; to = omega arith; is = refl })
     (All-head (λ (r : Segment). Inside (memory s) r.addr r.len) r segments inside))
     (segments_seen s segments (All-tail (λ (r : Segment). Inside (memory s) r.addr r.len) r segments inside))
+
+-- the readable list as it stands at one access
+pub readable_seen : (s : Sightings) (buffers : List Buffer) → Good (memory s) buffers
+    → AreBytesSeen s s (addresses_of false buffers) (readable_of (memory s) buffers)
+readable_seen s buffers good = segments_seen s (segments_of false buffers) (All-segments_of (memory s) false buffers good.inside)
 
 none_used : (n : ℕ) → 0 ≡ used_len (replicate n None)
 none_used zero = refl
@@ -105,7 +109,7 @@ writes_nothing device races s buffers old new good gives =
       written = replicate n None;
       read_to = s;
       reads = loads_none races s;
-      each_read = segments_seen s (segments_of false buffers) (All-segments_of (memory s) false buffers good.inside);
+      each_read = readable_seen s buffers good;
       gives = gives;
       each = length-replicate n None;
       parts = [];

@@ -1,21 +1,14 @@
 use Rattle.std.proofs.Common.{◌∙◌, true, ap, arith}
 use Rattle.guest_memory.proofs.Ranges.{same_trans}
-use Rattle.chain.proofs.Directions.{len_of-le, length-addresses_of}
 use Rattle.shared_memory.specs.Sightings.{memory}
 use Rattle.block_device.specs.Asking.{used_by}
-use Rattle.racing_service.proofs.Rows.{byte_stored, once_range}
+use Rattle.racing_service.proofs.Rows.{byte_stored, few_places, once_range}
 use Rattle.racing_disk.proofs.Answering.{answered}
 use Rattle.racing_disk.proofs.disk.RacingDisk.answer.Goals as goal
 
 pub used-used-requires-clause-fits : goal.used-used-requires-clause-fits
 used-used-requires-clause-fits g c =
-    omega (
-      arith,
-      c.writable_len.ensures,
-      c.buffers.ensures.fits,
-      len_of-le true c.args.chain.now,
-      length-addresses_of true c.args.chain.now,
-    )
+    omega (arith, c.writable_len.ensures, few_places true c.args.chain.now c.buffers.ensures.fits)
 
 pub give-requires-clause-lies : goal.give-requires-clause-lies
 give-requires-clause-lies g c =

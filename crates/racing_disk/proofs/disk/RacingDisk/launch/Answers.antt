@@ -1,17 +1,11 @@
 use Rattle.std.proofs.Common.{◌∙◌, true, arith}
-use Rattle.chain.proofs.Directions.{len_of-le, length-addresses_of}
+use Rattle.racing_service.proofs.Rows.{few_places}
 use Rattle.racing_disk.proofs.Telling.{left_inside, places_left, runs_are}
 use Rattle.racing_disk.proofs.disk.RacingDisk.launch.Goals as goal
 
 pub overflow_cast-result : goal.overflow_cast-result
 overflow_cast-result g c =
-    omega (
-      arith,
-      c.writable_len.ensures,
-      c.buffers.ensures.fits,
-      len_of-le true c.args.chain.now,
-      length-addresses_of true c.args.chain.now,
-    )
+    omega (arith, c.writable_len.ensures, few_places true c.args.chain.now c.buffers.ensures.fits)
 
 pub tell-operation-requires-clause-places : goal.tell-operation-requires-clause-places
 tell-operation-requires-clause-places g c =
