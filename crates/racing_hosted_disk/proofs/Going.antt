@@ -1,5 +1,5 @@
 -- A look that finds a request: the memory's range and the other chains in flight stay.
-use Rattle.std.proofs.Common.{◌≡◌, ◌∙◌, ℕ, ◌+◌, ◌<◌, Bool, true, Option, Some, None, List, length, get_or, set, sym, ap, subst, arith}
+use Rattle.std.proofs.Common.{◌≡◌, ◌∙◌, ℕ, ◌+◌, ◌<◌, Bool, true, Option, Some, None, List, length, get_or, set, ap, arith}
 use Rattle.std.proofs.lemmas.List.Elements.{All-set, All-weaker}
 use Rattle.std.proofs.lemmas.List.Sums.{sum_by-set}
 use Rattle.guest_memory.specs.Memory.{SameRange}
@@ -7,14 +7,13 @@ use Rattle.guest_memory.proofs.Ranges.{same_trans}
 use Rattle.chain.specs.declared.segment.Buffer.{Buffer}
 use Rattle.chain.specs.declared.segment.Segment.{Segment}
 use Rattle.chain.specs.Service.{Entry}
-use Rattle.shared_memory.specs.Sightings.{Sightings, memory}
+use Rattle.shared_memory.specs.Sightings.{memory}
 use Rattle.shared_memory.proofs.Sightings.{loads_range, same_back}
 use Rattle.block_device.specs.declared.device.BlockDevice.{BlockDevice}
 use Rattle.block_device.specs.declared.operation.Operation.{Operation}
 use Rattle.block_device.specs.declared.request.Request.{Request}
 use Rattle.block_device.specs.Hosting.{hosted_device}
-use Rattle.racing_service.specs.Device.{DoesRaced}
-use Rattle.racing_service.specs.Flights.{AreAhead, FlightLaws, Stays, TagFits, tag_places}
+use Rattle.racing_service.specs.Flights.{AreAhead, FlightLaws, TagFits, tag_places}
 use Rattle.racing_service.specs.declared.stage.Stage.{Stage}
 use Rattle.racing_service.specs.Queue.{RacingKind}
 use Rattle.racing_service.specs.Service.{Standing}
@@ -23,6 +22,7 @@ use Rattle.racing_service.proofs.Moving.{Keeps, keeps_trans, refused_keeps}
 use Rattle.racing_service.proofs.Standing.{does_range}
 use Rattle.racing_disk.specs.Looking.{FindsOneThatAsks, FindsOneToAnswer, FindsRequest}
 use Rattle.racing_disk.specs.Telling.{IsLeft}
+use Rattle.racing_disk.proofs.Standing.{answer_served}
 use Rattle.racing_hosted_disk.specs.Looking.{FindsIn}
 use Rattle.block_device.specs.Tags.{InFlight, free_tag, token_in, tokens_of}
 use Rattle.block_device.proofs.Freeing.{is_free, token_at, tokens_set, tokens_size}
@@ -53,31 +53,16 @@ module _ {Ring Token : Type 0} {kind : RacingKind Ring} {entry_of : Token → En
       let before = up_to a at finds.buffers finds.entry finds.request finds.kept wanted finds.finds in
       let left = finds.finds.service.leaves.serves.leaves in
       let answer = finds.answered left.refuses.readable left.refuses.refuses in
-      let is = answer.answered in
-      let does : DoesRaced (hosted_device device) races left.taken answer.done finds.buffers tt tt finds.len true = record {
-        readable = left.refuses.readable;
-        written = is.written;
-        read_to = at.sightings;
-        reads = left.refuses.reads;
-        each_read = left.refuses.each_read;
-        gives = is.gives;
-        each = is.each;
-        parts = is.parts;
-        stores = is.stores;
-        len_is = is.len_is;
-        any_is = is.any_is;
-      } in
+      let does = answer_served device races left.taken at.sightings answer.done left.refuses.readable finds.buffers finds.len
+      left.refuses.reads left.refuses.each_read answer.answered in
       let done : SameRange (memory at.sightings) (memory answer.done) =
       same_trans (memory at.sightings) (memory left.taken) (memory answer.done)
       (same_back (memory left.taken) (memory at.sightings) (loads_range races left.taken at.sightings left.refuses.reads))
       (does_range (hosted_device device) races left.taken answer.done finds.buffers tt tt finds.len true does) in
       let given : SameRange (memory answer.done) (memory b.sightings) =
       laws.given_range races answer.done b.sightings at.ring finds.entry finds.len true answer.given in
-      let past = laws.past at.ring finds.entry in
-      let last : Stays Fits ahead_of at.ring b.ring =
-      subst (λ (r : Ring). Stays Fits ahead_of at.ring r) (sym answer.past) past in
       let behind : Stayed at b = record {
-        stays = last;
+        stays = rw answer.past (laws.past at.ring finds.entry);
         range = same_trans (memory at.sightings) (memory answer.done) (memory b.sightings) done given;
       } in
       keeps_trans (moves laws) (hosted_device device) races a at b before behind
@@ -96,18 +81,12 @@ module _ {Ring Token : Type 0} {kind : RacingKind Ring} {entry_of : Token → En
   asked_launches Takes stable a b t operation status writable buffers runs wanted finds f =
       let at = finds.at in
       let before = up_to a at buffers (entry_of t) finds.request finds.kept wanted finds.finds in
-      let ring : b.ring ≡ kind.still.launched at.ring (entry_of t) = ap (λ (x : At). x.ring) finds.stands in
-      let seen : b.sightings ≡ at.sightings = ap (λ (x : At). x.sightings) finds.stands in
-      let more = laws.launched_ahead at.ring t (subst (λ (r : Ring). Fits r t) ring f) in
-      let same = before.stays.ahead in
-      let here : ahead_of b.ring ≡ ahead_of (kind.still.launched at.ring (entry_of t)) = ap ahead_of ring in
-      record {
-        fits = λ token f.
-            subst (λ (r : Ring). Fits r token) (sym ring)
-            (laws.launched_fits at.ring (entry_of t) token ((before.stays.fits token).0 f));
-        ahead = here ∙ more ∙ ap (λ (n : ℕ). n + (entry_of t).places) same;
-        range = subst (λ (l : Sightings). SameRange (memory a.sightings) (memory l)) (sym seen) before.range;
-      }
+      let fits : Fits (kind.still.launched at.ring (entry_of t)) t = rw finds.stands at f in
+      rw finds.stands (record {
+        fits = λ token f. laws.launched_fits at.ring (entry_of t) token ((before.stays.fits token).0 f);
+        ahead = laws.launched_ahead at.ring t fits ∙ ap (λ (n : ℕ). n + (entry_of t).places) before.stays.ahead;
+        range = before.range;
+      })
 
   -- ---- either
 

@@ -27,9 +27,6 @@ module _ {Ring T : Type 0} (queues : RacingKind Ring) (entry_of : T → Entry) (
     pub here_is : here ≡ stage_behind stage looks
     pub wanted_is : wanted ≡ any_wanted looks
 
-  pub looks_first : (stage : Stage) (start : Place Ring T) → IsLooking stage stage start start 0 false
-  looks_first stage start = record { looks = []; many = refl; are = refl; here_is = refl; wanted_is = refl }
-
   push : (stage : Stage) (a b : Place Ring T) (looks : List (Look Ring T)) (l : Look Ring T)
       → AreLooks queues entry_of IsTaken device races limits stable stage a looks b
       → LooksOn queues entry_of IsTaken device races (stage_behind stage looks) limits.rounds stable l.asks b l.after l.wanted

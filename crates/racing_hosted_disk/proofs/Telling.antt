@@ -83,18 +83,6 @@ module _ {Ring T : Type 0} (queues : RacingKind Ring) (entry_of : T → Entry) (
     is = refl;
   }
 
-  -- and any other is looked at
-  pub serves_looks : (stage : Stage) (disk new : RacingHostedDisk T) (s t : Sightings) (queue after : Ring) (ending : LookEnding)
-      (wanted : Bool) → disk.on_hold ≡ false → new ≡ record disk { tags = new.tags }
-      → HasLooked queues entry_of IsTaken disk.device races limits stable stage (place_at s queue limits.budget disk.tags) t after
-      new.tags ending wanted
-      → LooksAtQueue queues entry_of IsTaken races limits stable stage disk s t queue after new ending wanted
-  serves_looks stage disk new s t queue after ending wanted on_hold rest looked = record {
-    left = looked.left;
-    looks = rw on_hold looked.serves;
-    is = rest;
-  }
-
   pub released : (disk new : RacingHostedDisk T) (s t : Sightings) (queue after : Ring) (ending : LookEnding)
       (wanted : Bool) → new ≡ record disk { tags = new.tags; on_hold = false }
       → HasLooked queues entry_of IsTaken disk.device races limits stable First (place_at s queue limits.budget disk.tags) t after

@@ -9,19 +9,13 @@ use Rattle.racing_hosted_disk.proofs.disk.RacingHostedDisk.look.Goals as goal
 
 pub returns-in_default-clause-looks : goal.returns-in_default-clause-looks
 returns-in_default-clause-looks g c =
-    looks_full g.Q.RacingQueue.kind g.Q.RacingQueue.entry_of g.Q.RacingQueue.IsTaken c.args.self.now.device g.M.Shared.races
-    c.args.limits c.args.stable c.args.stage c.loop.here
-    (place_at (g.M.Shared.sightings c.args.mem.now) c.args.queue.now c.args.limits.budget c.args.self.now.tags)
-    (g.M.Shared.sightings c.loop.mem) c.loop.queue c.loop.left c.loop.self-inside.tags c.loop.counter c.loop.wanted
-    c.loop.invariant.looking (omega (arith, c.loop-test.true)) (sym c.in_default.ensures)
+    looks_full _ _ _ _ _ _ _ c.args.stage c.loop.here _ _ _ _ _ c.loop.counter c.loop.wanted c.loop.invariant.looking
+    (omega (arith, c.loop-test.true)) (sym c.in_default.ensures)
 
 pub returns-in-Ok-clause-looks : goal.returns-in-Ok-clause-looks
 returns-in-Ok-clause-looks g c =
     let v = c.loop.invariant in
-    looks_served g.Q.RacingQueue.kind g.Q.RacingQueue.entry_of g.Q.RacingQueue.IsTaken c.args.self.now.device g.M.Shared.races
-    c.args.limits c.args.stable c.args.stage c.loop.here
-    (place_at (g.M.Shared.sightings c.args.mem.now) c.args.queue.now c.args.limits.budget c.args.self.now.tags)
-    (g.M.Shared.sightings c.loop.mem) c.loop.queue c.loop.left c.loop.self-inside.tags c.loop.counter c.loop.wanted v.looking
+    looks_served _ _ _ _ _ _ _ c.args.stage c.loop.here _ _ _ _ _ c.loop.counter c.loop.wanted v.looking
     c.in-Some.tag (g.M.Shared.sightings c.look_for.new.mem) c.look_for.new.queue c.in-Ok.outcome.left c.look_for.new.tags
     c.in-Ok.outcome.ending (c.loop.wanted || c.in-Ok.outcome.wanted) c.in-Ok.outcome.wanted
     (omega (arith, c.loop-test.true)) (sym c.in-Some.ensures) (rw v.device at c.in-Ok.ensures.ends)
@@ -30,14 +24,10 @@ returns-in-Ok-clause-looks g c =
 pub loop-preserved : goal.loop-preserved
 loop-preserved g c =
     let v = c.loop.invariant in record {
-      looking = looks_on g.Q.RacingQueue.kind g.Q.RacingQueue.entry_of g.Q.RacingQueue.IsTaken c.args.self.now.device
-          g.M.Shared.races c.args.limits c.args.stable c.args.stage c.loop.here
-          (place_at (g.M.Shared.sightings c.args.mem.now) c.args.queue.now c.args.limits.budget c.args.self.now.tags)
-          (place_at (g.M.Shared.sightings c.loop.mem) c.loop.queue c.loop.left c.loop.self-inside.tags)
-          (place_at (g.M.Shared.sightings c.look_for.new.mem) c.look_for.new.queue c.in-Err.step.left
-          c.look_for.new.tags)
-          c.loop.counter c.loop.wanted (c.loop.wanted || c.in-Err.step.wanted) c.in-Err.step.wanted c.in-Err.ensures.finds.0 v.looking (rw v.device at c.in-Err.ensures.finds.1)
-          refl;
+      looking = looks_on _ _ _ _ _ _ _ c.args.stage c.loop.here _ _
+          (place_at (g.M.Shared.sightings c.look_for.new.mem) c.look_for.new.queue c.in-Err.step.left c.look_for.new.tags)
+          c.loop.counter c.loop.wanted (c.loop.wanted || c.in-Err.step.wanted) c.in-Err.step.wanted c.in-Err.ensures.finds.0
+          v.looking (rw v.device at c.in-Err.ensures.finds.1) refl;
       device = c.look_for.ensures.device ∙ v.device;
       on_hold = v.on_hold;
       each = rw v.device at c.look_for.ensures.each;
@@ -49,11 +39,8 @@ loop-preserved g c =
 pub returns-clause-looks : goal.returns-clause-looks
 returns-clause-looks g c =
     let v = c.loop.invariant in
-    looks_limited g.Q.RacingQueue.kind g.Q.RacingQueue.entry_of g.Q.RacingQueue.IsTaken c.args.self.now.device g.M.Shared.races
-    c.args.limits c.args.stable c.args.stage c.loop.here
-    (place_at (g.M.Shared.sightings c.args.mem.now) c.args.queue.now c.args.limits.budget c.args.self.now.tags)
-    (g.M.Shared.sightings c.loop.mem) c.loop.queue c.loop.left c.loop.self-inside.tags c.loop.counter c.loop.wanted
-    v.looking (g.M.Shared.sightings c.close-asked.new.mem) c.close-asked.new.self (c.loop.wanted || c.close-asked.result)
+    looks_limited _ _ _ _ _ _ _ c.args.stage c.loop.here _ _ _ _ _ c.loop.counter c.loop.wanted v.looking
+    (g.M.Shared.sightings c.close-asked.new.mem) c.close-asked.new.self (c.loop.wanted || c.close-asked.result)
     c.close-asked.result (omega (arith, c.loop-test.false, c.loop.auto.counter-end))
     (record {
       closed = c.close-asked.ensures.closed;
