@@ -1,7 +1,7 @@
 pub mod Services
 pub mod Cards
 pub mod One
-pub mod Terminals
+pub mod Joining
 pub mod Pieces
 pub mod Sound
 pub mod Saved

@@ -1,5 +1,5 @@
 -- The pieces of a device's service of a queue: joined they are one service of it.
-use Rattle.std.proofs.Common.{◌≡◌, ◌≢◌, ◌⊎◌, inl, inr, ℕ, zero, suc, Option, Some, None, List, [], ◌∷◌, refl, sym, ap, subst, ◌∙◌}
+use Rattle.std.proofs.Common.{◌≡◌, ◌≢◌, ◌⊎◌, inl, inr, ℕ, zero, suc, Bool, true, false, Option, Some, None, List, [], ◌∷◌, refl, sym, ap, subst, ◌∙◌}
 use Rattle.std.specs.Prelude.{slice_set}
 use Rattle.std.specs.List.{slice_get}
 use Rattle.std.specs.Option.{option_map_or}
@@ -7,31 +7,30 @@ use Rattle.guest_memory.specs.Memory.{Memory}
 use Rattle.chain.specs.declared.budget.Budget.{Budget}
 use Rattle.chain.specs.declared.budget.Progress.{Progress}
 use Rattle.chain.specs.declared.budget.Progress.TheVariants.{Done, More}
-use Rattle.chain.specs.Service.{Device}
 use Rattle.mmio_window.specs.declared.stage.Stage.{Stage}
 use Rattle.mmio_window.specs.declared.stage.Stage.TheVariants.{First, Next}
+use Rattle.mmio_window.specs.Pieces.{ServesTo}
 use Rattle.mmio_window.specs.Window.{WindowState, queue_at}
+use Rattle.mmio_window.proofs.Devices.{KeepsDevice, KeepsDevice-refused, KeepsDevice-self, KeepsDevice-served}
 use Rattle.mmio_window.proofs.Pieces.{notified_once}
-use Rattle.mmio_window.proofs.Underway.{OnItsWay, again, ended, ended_so, first}
+use Rattle.mmio_window.proofs.Underway as underway
 use Rattle.entropy_device.specs.Device.{entropy}
 use Rattle.console_device.specs.Device as console
 use Rattle.network_device.specs.Device.{Passing, passing, receive, receive_fitting, transmit}
-use Rattle.device_list.specs.Card.{Card, CardServesTo, ReceivesFrames, ReceivesFramesTo, ServesCard, card_limits}
+use Rattle.block_device.specs.declared.device.BlockDevice.{BlockDevice}
+use Rattle.block_device.specs.Flights.{HostedQueue}
+use Rattle.hosted_disk.specs.Disk.{HostedDisk, LooksUnless, ServesDisk, queue_of}
+use Rattle.hosted_disk.proofs.Windows.{looked_keeps}
+use Rattle.device_list.specs.Card.{Card, CardServesTo, ReceivesFramesTo, ServesCard, card_limits}
 use Rattle.device_list.specs.Device.{DeviceServesTo, DeviceState, ServesDevice}
 use Rattle.device_list.specs.List.{At, DevicesServeTo, ServesAny, changed_at}
 use Rattle.device_list.specs.Model.{ModelState, Entropy, Network, Block, Console, Image, ModelServesTo, Serves, ServesAs}
 use Rattle.device_list.specs.Terminal.{ServesTerminal, Terminal, TerminalServesTo, terminal_limit}
-use Rattle.device_list.proofs.Cards.{receive_fits, receives_whole, with_sent, with_waiting}
-use Rattle.device_list.proofs.Services.{once, piece_fits, spends_limit}
+use Rattle.device_list.proofs.Cards.{receives_whole, with_sent, with_waiting}
+use Rattle.device_list.proofs.Joining.{IsUnderWay, Joins, Pieces, as_type, at_once, by_device}
+use Rattle.device_list.proofs.Services.{nothing_keeps, piece_fits, spends_limit}
 
 -- ---- a service under way
-
--- Some pieces of a queue's service were served, the queue stands open, and what is made of the state is this now.
-pub record IsUnderWay {State Whole : Type 0} (device : Device State) (q : ℕ) (made : State → Whole) (start : State)
-    (m m' : Memory) (w w' : WindowState) (now : Whole) : Type 0 where
-  pub left : State
-  pub way : OnItsWay device q m m' w w' start left
-  pub is : now ≡ made left
 
 abbrev with_pending : Terminal → List ℕ → Terminal
 with_pending terminal pending = record terminal { console = record terminal.console { pending = pending } }
@@ -75,251 +74,135 @@ DeviceUnderWay q m m' d d' = ModelUnderWay d.model q m m' d.window d'.window d'.
 abbrev pub DevicesUnderWay : ℕ → ℕ → Memory → Memory → List DeviceState → List DeviceState → Type 0
 DevicesUnderWay n q m m' old new = At (DeviceUnderWay q) n m m' old new
 
--- ---- a piece of a card's service
+-- ---- pieces of a card's service
 
-module _ (budget : Budget) where
-  card_once : (card card' : Card) (q : ℕ) (m m' : Memory) (w w' : WindowState)
-      → CardServesTo First budget Done card q m m' w w' card' → ServesCard card q m m' w w' card'
-  card_once card card' zero m m' w w' h =
-      receives_whole First budget card card.network.waiting m m m' w w w' card'
-      (λ ending last completes.
-      notified_once receive budget 0 (queue_at 0 w) ending m m' w w' card.network.waiting last completes) h
-  card_once card card' (suc zero) m m' w w' h = record {
-    out = h.out;
-    notified = once (transmit card_limits) budget 1 m m' w w' (sent_of card) h.out (queue_at 1 w) h.served;
-    is = h.is;
-  }
-  card_once card card' (suc (suc q)) m m' w w' h = h.1
+abbrev CardPieces : ℕ → Pieces Card
+CardPieces q stage budget progress card m m' w w' after = CardServesTo stage budget progress card q m m' w w' after
 
-  card_first : (card card' : Card) (q : ℕ) (m m' : Memory) (w w' : WindowState)
-      → CardServesTo First budget More card q m m' w w' card' → CardUnderWay card q m m' w w' card'
-  card_first card card' zero m m' w w' h = elim h.served [
-    | inl fits ↦ record {
-      left = h.left;
-      way = first receive 0 budget (piece_fits receive_fitting receive receive_fits budget 0 m m' w w'
-          card.network.waiting h.left First (queue_at 0 w) More fits);
-      is = h.is;
-    }
-    | inr ends ↦ let done = ends.0 in absurd (cc (done))
-  ]
-  card_first card card' (suc zero) m m' w w' h =
-      record { left = h.out; way = first (transmit card_limits) 1 budget h.served; is = h.is }
-  card_first card card' (suc (suc q)) m m' w w' h = let done = h.0 in absurd (cc (done))
+-- a piece of the receive queue that pauses, or goes on and pauses again
+goes_on : (stage : Stage) (budget : Budget) (card : Card) (left : Passing) (m m' : Memory) (w w' : WindowState) (after : Card)
+    (piece : ReceivesFramesTo stage budget More (with_waiting card left) m m' w w' after)
+    → ServesTo stage receive_fitting budget 0 (queue_at 0 w) More m m' w w' left piece.left
+goes_on stage budget card left m m' w w' after piece = elim piece.served [
+  | inl fits ↦ fits
+  | inr ends ↦ let done = ends.0 in absurd (cc (done))
+]
 
-  module _ (card : Card) (m0 m1 m2 : Memory) (w0 w1 w2 : WindowState) where
-    receives_again : (left : Passing) (card' : Card) → OnItsWay receive 0 m0 m1 w0 w1 card.network.waiting left
-        → ReceivesFramesTo Next budget More (with_waiting card left) m1 m2 w1 w2 card'
-        → CardUnderWay card 0 m0 m2 w0 w2 card'
-    receives_again left card' way h = elim h.served [
-      | inl fits ↦ record {
-        left = h.left;
-        way = again receive 0 budget way (piece_fits receive_fitting receive receive_fits budget 0 m1 m2 w1 w2 left
-            h.left Next (queue_at 0 w1) More fits);
-        is = h.is;
-      }
-      | inr ends ↦ let done = ends.0 in absurd (cc (done))
-    ]
-
-    receives_to_end : (left : Passing) (card' : Card) → OnItsWay receive 0 m0 m1 w0 w1 card.network.waiting left
-        → ReceivesFramesTo Next budget Done (with_waiting card left) m1 m2 w1 w2 card'
-        → ReceivesFrames card m0 m2 w0 w2 card'
-    receives_to_end left card' way h =
-        receives_whole Next budget card left m0 m1 m2 w0 w1 w2 card'
-        (λ ending last finishes. ended_so receive 0 budget ending m0 m1 m2 w0 w1 w2 card.network.waiting left last way
-        finishes) h
-
-    card_again : (now card' : Card) (q : ℕ) → CardUnderWay card q m0 m1 w0 w1 now
-        → CardServesTo Next budget More now q m1 m2 w1 w2 card' → CardUnderWay card q m0 m2 w0 w2 card'
-    card_again now card' zero u h =
-        receives_again u.left card' u.way
-        (subst (λ (c : Card). CardServesTo Next budget More c 0 m1 m2 w1 w2 card') u.is h)
-    card_again now card' (suc zero) u h =
-        let p = subst (λ (c : Card). CardServesTo Next budget More c 1 m1 m2 w1 w2 card') u.is h in
-        record { left = p.out; way = again (transmit card_limits) 1 budget u.way p.served; is = p.is }
-    card_again now card' (suc (suc q)) u h = absurd u
-
-    card_ended : (now card' : Card) (q : ℕ) → CardUnderWay card q m0 m1 w0 w1 now
-        → CardServesTo Next budget Done now q m1 m2 w1 w2 card' → ServesCard card q m0 m2 w0 w2 card'
-    card_ended now card' zero u h =
-        receives_to_end u.left card' u.way
-        (subst (λ (c : Card). CardServesTo Next budget Done c 0 m1 m2 w1 w2 card') u.is h)
-    card_ended now card' (suc zero) u h =
-        let p = subst (λ (c : Card). CardServesTo Next budget Done c 1 m1 m2 w1 w2 card') u.is h in
-        record { out = p.out; notified = ended (transmit card_limits) 1 budget u.way p.served; is = p.is }
-    card_ended now card' (suc (suc q)) u h = absurd u
-
-  -- ---- and of a console's
-
-  terminal_once : (terminal terminal' : Terminal) (q : ℕ) (m m' : Memory) (w w' : WindowState)
-      → TerminalServesTo First budget Done terminal q m m' w w' terminal'
-      → ServesTerminal terminal q m m' w w' terminal'
-  terminal_once terminal terminal' zero m m' w w' h = record {
+receives : (card : Card) → Joins (CardPieces 0) card (CardUnderWay card 0) (ServesCard card 0)
+receives card = record {
+  once = λ budget m m' w w' after h.
+      receives_whole First budget card start m m m' w w w' after
+      (λ ending last completes. notified_once receive budget 0 (queue_at 0 w) ending m m' w w' start last completes) h;
+  first = λ budget m m' w w' after h. record {
     left = h.left;
-    notified = once console.receive budget 0 m m' w w' terminal.console.pending h.left (queue_at 0 w) h.served;
+    way = underway.first receive 0 budget (piece_fits receive budget 0 m m' w w' start h.left First (queue_at 0 w) More
+        (goes_on First budget card start m m' w w' after h));
     is = h.is;
-  }
-  terminal_once terminal terminal' (suc zero) m m' w w' h = record {
-    out = h.out;
-    notified = once (console.transmit_within (Some terminal_limit)) budget 1 m m' w w' terminal.waiting h.out
-        (queue_at 1 w) h.served;
-    is = h.is;
-  }
-  terminal_once terminal terminal' (suc (suc q)) m m' w w' h = h.1
-
-  terminal_first : (terminal terminal' : Terminal) (q : ℕ) (m m' : Memory) (w w' : WindowState)
-      → TerminalServesTo First budget More terminal q m m' w w' terminal'
-      → TerminalUnderWay terminal q m m' w w' terminal'
-  terminal_first terminal terminal' zero m m' w w' h =
-      record { left = h.left; way = first console.receive 0 budget h.served; is = h.is }
-  terminal_first terminal terminal' (suc zero) m m' w w' h = record {
-    left = h.out;
-    way = first (console.transmit_within (Some terminal_limit)) 1 budget h.served;
-    is = h.is;
-  }
-  terminal_first terminal terminal' (suc (suc q)) m m' w w' h = let done = h.0 in absurd (cc (done))
-
-  module _ (terminal : Terminal) (m0 m1 m2 : Memory) (w0 w1 w2 : WindowState) where
-    terminal_again : (now terminal' : Terminal) (q : ℕ) → TerminalUnderWay terminal q m0 m1 w0 w1 now
-        → TerminalServesTo Next budget More now q m1 m2 w1 w2 terminal'
-        → TerminalUnderWay terminal q m0 m2 w0 w2 terminal'
-    terminal_again now terminal' zero u h =
-        let p = subst (λ (t : Terminal). TerminalServesTo Next budget More t 0 m1 m2 w1 w2 terminal') u.is h in
-        record { left = p.left; way = again console.receive 0 budget u.way p.served; is = p.is }
-    terminal_again now terminal' (suc zero) u h =
-        let p = subst (λ (t : Terminal). TerminalServesTo Next budget More t 1 m1 m2 w1 w2 terminal') u.is h in
-        record {
-          left = p.out;
-          way = again (console.transmit_within (Some terminal_limit)) 1 budget u.way p.served;
-          is = p.is;
-        }
-    terminal_again now terminal' (suc (suc q)) u h = absurd u
-
-    terminal_ended : (now terminal' : Terminal) (q : ℕ) → TerminalUnderWay terminal q m0 m1 w0 w1 now
-        → TerminalServesTo Next budget Done now q m1 m2 w1 w2 terminal'
-        → ServesTerminal terminal q m0 m2 w0 w2 terminal'
-    terminal_ended now terminal' zero u h =
-        let p = subst (λ (t : Terminal). TerminalServesTo Next budget Done t 0 m1 m2 w1 w2 terminal') u.is h in
-        record { left = p.left; notified = ended console.receive 0 budget u.way p.served; is = p.is }
-    terminal_ended now terminal' (suc zero) u h =
-        let p = subst (λ (t : Terminal). TerminalServesTo Next budget Done t 1 m1 m2 w1 w2 terminal') u.is h in
-        record {
-          out = p.out;
-          notified = ended (console.transmit_within (Some terminal_limit)) 1 budget u.way p.served;
-          is = p.is;
-        }
-    terminal_ended now terminal' (suc (suc q)) u h = absurd u
-
--- ---- of a device, whichever it is
-
--- a service in one piece is a service
-pub model_once : (budget : Budget) (model : ModelState) (q : ℕ) (m m' : Memory) (w w' : WindowState)
-    (model' : ModelState) → ModelServesTo First budget Done model q m m' w w' model'
-    → Serves model q m m' w w' model'
-model_once budget (Entropy pool) zero m m' w w' model' h = record {
-  left = h.left;
-  notified = once entropy budget 0 m m' w w' pool h.left (queue_at 0 w) h.served;
-  is = h.is;
+  };
+  again = λ budget m0 m1 m2 w0 w1 w2 now after u h.
+      (let p = behind budget More u.left m1 m2 w1 w2 now after u.is h in
+      record {
+        left = p.left;
+        way = underway.again receive 0 budget u.way (piece_fits receive budget 0 m1 m2 w1 w2 u.left p.left Next
+            (queue_at 0 w1) More (goes_on Next budget card u.left m1 m2 w1 w2 after p));
+        is = p.is;
+      });
+  ended = λ budget m0 m1 m2 w0 w1 w2 now after u h.
+      receives_whole Next budget card u.left m0 m1 m2 w0 w1 w2 after
+      (λ ending last finishes.
+      underway.ended_so receive 0 budget ending m0 m1 m2 w0 w1 w2 start u.left last u.way finishes)
+      (behind budget Done u.left m1 m2 w1 w2 now after u.is h);
+  by_limit = λ stage budget m m' w w' after h.
+      spends_limit receive_fitting budget 0 m m' w w' start h.left stage (queue_at 0 w)
+      (goes_on stage budget card start m m' w w' after h);
+  keeps = λ stage budget progress m m' w w' after h. elim h.served [
+    | inl fits ↦ KeepsDevice-served receive_fitting budget 0 stage (queue_at 0 w) progress m m' w w' start h.left fits
+    | inr ends ↦ KeepsDevice-refused receive budget 0 stage (queue_at 0 w) m m' w w' start ends.1.last ends.1.refused
+  ];
 }
-model_once budget (Entropy pool) (suc q) m m' w w' model' h = h.1
-model_once budget (Network card) q m m' w w' model' h =
-    record { after = h.after; serves = card_once budget card h.after q m m' w w' h.serves; is = h.is }
-model_once budget (Block disk) q m m' w w' model' h = h.1
-model_once budget (Console terminal) q m m' w w' model' h =
-    record { after = h.after; serves = terminal_once budget terminal h.after q m m' w w' h.serves; is = h.is }
-model_once budget (Image disk) q m m' w w' model' h = h.1
+  where
+    start : Passing
+    start = card.network.waiting
 
-model_first : (budget : Budget) (model : ModelState) (q : ℕ) (m m' : Memory) (w w' : WindowState)
-    (model' : ModelState) → ModelServesTo First budget More model q m m' w w' model'
-    → ModelUnderWay model q m m' w w' model'
-model_first budget (Entropy pool) zero m m' w w' model' h =
-    record { left = h.left; way = first entropy 0 budget h.served; is = h.is }
-model_first budget (Entropy pool) (suc q) m m' w w' model' h = let done = h.0 in absurd (cc (done))
-model_first budget (Network card) q m m' w w' model' h =
-    record { after = h.after; serves = card_first budget card h.after q m m' w w' h.serves; is = h.is }
-model_first budget (Block disk) q m m' w w' model' h = let done = h.0 in absurd (cc (done))
-model_first budget (Console terminal) q m m' w w' model' h =
-    record { after = h.after; serves = terminal_first budget terminal h.after q m m' w w' h.serves; is = h.is }
-model_first budget (Image disk) q m m' w w' model' h = let done = h.0 in absurd (cc (done))
+    behind : (budget : Budget) (progress : Progress) (left : Passing) (m m' : Memory) (w w' : WindowState)
+        (now after : Card) → now ≡ with_waiting card left
+        → ReceivesFramesTo Next budget progress now m m' w w' after
+        → ReceivesFramesTo Next budget progress (with_waiting card left) m m' w w' after
+    behind budget progress left m m' w w' now after is h =
+        subst (λ (c : Card). ReceivesFramesTo Next budget progress c m m' w w' after) is h
 
-module _ (budget : Budget) (m0 m1 m2 : Memory) (w0 w1 w2 : WindowState) where
-  model_again : (model now model' : ModelState) (q : ℕ) → ModelUnderWay model q m0 m1 w0 w1 now
-      → ModelServesTo Next budget More now q m1 m2 w1 w2 model' → ModelUnderWay model q m0 m2 w0 w2 model'
-  model_again (Entropy pool) now model' zero u h =
-      let p = subst (λ (s : ModelState). ModelServesTo Next budget More s 0 m1 m2 w1 w2 model') u.is h in
-      record { left = p.left; way = again entropy 0 budget u.way p.served; is = p.is }
-  model_again (Entropy pool) now model' (suc q) u h = absurd u
-  model_again (Network card) now model' q u h =
-      let p = subst (λ (s : ModelState). ModelServesTo Next budget More s q m1 m2 w1 w2 model') u.is h in
-      record {
-        after = p.after;
-        serves = card_again budget card m0 m1 m2 w0 w1 w2 u.after p.after q u.serves p.serves;
-        is = p.is;
-      }
-  model_again (Block disk) now model' q u h = absurd u
-  model_again (Console terminal) now model' q u h =
-      let p = subst (λ (s : ModelState). ModelServesTo Next budget More s q m1 m2 w1 w2 model') u.is h in
-      record {
-        after = p.after;
-        serves = terminal_again budget terminal m0 m1 m2 w0 w1 w2 u.after p.after q u.serves p.serves;
-        is = p.is;
-      }
-  model_again (Image disk) now model' q u h = absurd u
+card_joins : (card : Card) (q : ℕ) → Joins (CardPieces q) card (CardUnderWay card q) (ServesCard card q)
+card_joins card zero = receives card
+card_joins card (suc zero) =
+    by_device (CardPieces 1) (transmit card_limits) 1 (with_sent card)
+    (λ stage budget progress left m m' w w' after h. record { left = h.out; served = h.served; is = h.is })
+    (sent_of card) (ServesCard card 1)
+    (λ m m' w w' after left notified is. record { out = left; notified = notified; is = is })
+card_joins card (suc (suc q)) =
+    at_once (CardPieces (suc (suc q))) card (ServesCard card (suc (suc q)))
+    (λ stage budget progress m m' w w' after h. h) (λ m m' w w' after h. nothing_keeps m m' w w' card after h)
 
-  model_ended : (model now model' : ModelState) (q : ℕ) → ModelUnderWay model q m0 m1 w0 w1 now
-      → ModelServesTo Next budget Done now q m1 m2 w1 w2 model' → Serves model q m0 m2 w0 w2 model'
-  model_ended (Entropy pool) now model' zero u h =
-      let p = subst (λ (s : ModelState). ModelServesTo Next budget Done s 0 m1 m2 w1 w2 model') u.is h in
-      record { left = p.left; notified = ended entropy 0 budget u.way p.served; is = p.is }
-  model_ended (Entropy pool) now model' (suc q) u h = absurd u
-  model_ended (Network card) now model' q u h =
-      let p = subst (λ (s : ModelState). ModelServesTo Next budget Done s q m1 m2 w1 w2 model') u.is h in
-      record {
-        after = p.after;
-        serves = card_ended budget card m0 m1 m2 w0 w1 w2 u.after p.after q u.serves p.serves;
-        is = p.is;
-      }
-  model_ended (Block disk) now model' q u h = absurd u
-  model_ended (Console terminal) now model' q u h =
-      let p = subst (λ (s : ModelState). ModelServesTo Next budget Done s q m1 m2 w1 w2 model') u.is h in
-      record {
-        after = p.after;
-        serves = terminal_ended budget terminal m0 m1 m2 w0 w1 w2 u.after p.after q u.serves p.serves;
-        is = p.is;
-      }
-  model_ended (Image disk) now model' q u h = absurd u
+-- ---- of a console's
 
--- ---- a piece that pauses has spent a limit
+abbrev TerminalPieces : ℕ → Pieces Terminal
+TerminalPieces q stage budget progress terminal m m' w w' after =
+    TerminalServesTo stage budget progress terminal q m m' w w' after
 
-module _ (stage : Stage) (budget : Budget) (m m' : Memory) (w w' : WindowState) where
-  card_by_limit : (card card' : Card) (q : ℕ) → CardServesTo stage budget More card q m m' w w' card'
-      → (budget.chains ≢ None) ⊎ (budget.bytes ≢ None)
-  card_by_limit card card' zero h = elim h.served [
-    | inl fits ↦ spends_limit receive_fitting budget 0 m m' w w' card.network.waiting h.left stage (queue_at 0 w) fits
-    | inr ends ↦ let done = ends.0 in absurd (cc (done))
-  ]
-  card_by_limit card card' (suc zero) h =
-      spends_limit (transmit card_limits) budget 1 m m' w w' (sent_of card) h.out stage (queue_at 1 w) h.served
-  card_by_limit card card' (suc (suc q)) h = let done = h.0 in absurd (cc (done))
+terminal_joins : (terminal : Terminal) (q : ℕ)
+    → Joins (TerminalPieces q) terminal (TerminalUnderWay terminal q) (ServesTerminal terminal q)
+terminal_joins terminal zero =
+    by_device (TerminalPieces 0) console.receive 0 (with_pending terminal)
+    (λ stage budget progress left m m' w w' after h. record { left = h.left; served = h.served; is = h.is })
+    terminal.console.pending (ServesTerminal terminal 0)
+    (λ m m' w w' after left notified is. record { left = left; notified = notified; is = is })
+terminal_joins terminal (suc zero) =
+    by_device (TerminalPieces 1) (console.transmit_within (Some terminal_limit)) 1 (with_output terminal)
+    (λ stage budget progress left m m' w w' after h. record { left = h.out; served = h.served; is = h.is })
+    terminal.waiting (ServesTerminal terminal 1)
+    (λ m m' w w' after left notified is. record { out = left; notified = notified; is = is })
+terminal_joins terminal (suc (suc q)) =
+    at_once (TerminalPieces (suc (suc q))) terminal (ServesTerminal terminal (suc (suc q)))
+    (λ stage budget progress m m' w w' after h. h) (λ m m' w w' after h. nothing_keeps m m' w w' terminal after h)
 
-  terminal_by_limit : (terminal terminal' : Terminal) (q : ℕ)
-      → TerminalServesTo stage budget More terminal q m m' w w' terminal'
-      → (budget.chains ≢ None) ⊎ (budget.bytes ≢ None)
-  terminal_by_limit terminal terminal' zero h =
-      spends_limit console.receive budget 0 m m' w w' terminal.console.pending h.left stage (queue_at 0 w) h.served
-  terminal_by_limit terminal terminal' (suc zero) h =
-      spends_limit (console.transmit_within (Some terminal_limit)) budget 1 m m' w w' terminal.waiting h.out stage
-      (queue_at 1 w) h.served
-  terminal_by_limit terminal terminal' (suc (suc q)) h = let done = h.0 in absurd (cc (done))
+-- ---- of a device's, whichever it is
 
-  model_by_limit : (model model' : ModelState) (q : ℕ) → ModelServesTo stage budget More model q m m' w w' model'
-      → (budget.chains ≢ None) ⊎ (budget.bytes ≢ None)
-  model_by_limit (Entropy pool) model' zero h =
-      spends_limit entropy budget 0 m m' w w' pool h.left stage (queue_at 0 w) h.served
-  model_by_limit (Entropy pool) model' (suc q) h = let done = h.0 in absurd (cc (done))
-  model_by_limit (Network card) model' q h = card_by_limit card h.after q h.serves
-  model_by_limit (Block disk) model' q h = let done = h.0 in absurd (cc (done))
-  model_by_limit (Console terminal) model' q h = terminal_by_limit terminal h.after q h.serves
-  model_by_limit (Image disk) model' q h = let done = h.0 in absurd (cc (done))
+abbrev ModelPieces : ℕ → Pieces ModelState
+ModelPieces q stage budget progress model m m' w w' after = ModelServesTo stage budget progress model q m m' w w' after
+
+unless_keeps : (on_hold : Bool) (device : BlockDevice) (old new : HostedQueue) → LooksUnless on_hold device old new
+    → KeepsDevice old.window new.window
+unless_keeps true device old new h =
+    subst (λ (q : HostedQueue). KeepsDevice old.window q.window) (sym h) (KeepsDevice-self old.window)
+unless_keeps false device old new h = looked_keeps device old new h
+
+disk_keeps : (disk : HostedDisk) (q : ℕ) (m m' : Memory) (w w' : WindowState) (after : HostedDisk)
+    → ServesDisk disk q m m' w w' after → KeepsDevice w w'
+disk_keeps disk zero m m' w w' after h =
+    unless_keeps disk.on_hold disk.device (queue_of m w disk) (queue_of m' w' after) h.looks
+disk_keeps disk (suc q) m m' w w' after h = nothing_keeps m m' w w' disk after h
+
+pub model_joins : (model : ModelState) (q : ℕ) → Joins (ModelPieces q) model (ModelUnderWay model q) (Serves model q)
+model_joins (Entropy pool) zero =
+    by_device (ModelPieces 0) entropy 0 Entropy
+    (λ stage budget progress left m m' w w' after h. record { left = h.left; served = h.served; is = h.is })
+    pool (Serves (Entropy pool) 0)
+    (λ m m' w w' after left notified is. record { left = left; notified = notified; is = is })
+model_joins (Entropy pool) (suc q) =
+    at_once (ModelPieces (suc q)) (Entropy pool) (Serves (Entropy pool) (suc q))
+    (λ stage budget progress m m' w w' after h. h)
+    (λ m m' w w' after h. nothing_keeps m m' w w' (Entropy pool) after h)
+model_joins (Network card) q =
+    as_type Network (CardPieces q) (ModelPieces q) (λ stage budget progress now m m' w w' after h. h) card
+    (CardUnderWay card q) (ServesCard card q) (card_joins card q)
+model_joins (Block disk) q =
+    at_once (ModelPieces q) (Block disk) (Serves (Block disk) q) (λ stage budget progress m m' w w' after h. h)
+    (λ m m' w w' after h. disk_keeps disk q m m' w w' h.after h.serves)
+model_joins (Console terminal) q =
+    as_type Console (TerminalPieces q) (ModelPieces q) (λ stage budget progress now m m' w w' after h. h) terminal
+    (TerminalUnderWay terminal q) (ServesTerminal terminal q) (terminal_joins terminal q)
+model_joins (Image disk) q =
+    at_once (ModelPieces q) (Image disk) (Serves (Image disk) q) (λ stage budget progress m m' w w' after h. h)
+    (λ m m' w w' after h. nothing_keeps m m' w w' (Image disk) after h)
 
 -- ---- a list of devices
 
@@ -382,14 +265,14 @@ module _ (stage : Stage) (budget : Budget) (n q : ℕ) (m m' : Memory) (old new 
       → (budget.chains ≢ None) ⊎ (budget.bytes ≢ None)
   pauses_by_limit h =
       let a = pauses_there (slice_get old n) h in
-      model_by_limit stage budget m m' a.before.window a.after.window a.before.model a.after.model q a.changes
+      (model_joins a.before.model q).by_limit stage budget m m' a.before.window a.after.window a.after.model a.changes
 
 -- the first piece of a service that pauses
 pub devices_first : (budget : Budget) (n q : ℕ) (m m' : Memory) (old new : List DeviceState)
     → DevicesServeTo First budget More n q m m' old new → DevicesUnderWay n q m m' old new
 devices_first budget n q m m' old new h =
     at_so (DeviceServesTo First budget More q) (DeviceUnderWay q) n m m' old new
-    (λ d d' changes. model_first budget d.model q m m' d.window d'.window d'.model changes)
+    (λ d d' changes. (model_joins d.model q).first budget m m' d.window d'.window d'.model changes)
     (pauses_there First budget n q m m' old new (slice_get old n) h)
 
 -- one that goes on and pauses again
@@ -398,8 +281,8 @@ pub devices_again : (budget : Budget) (n q : ℕ) (m0 m1 m2 : Memory) (d0 d1 d2 
     → DevicesUnderWay n q m0 m2 d0 d2
 devices_again budget n q m0 m1 m2 d0 d1 d2 way h =
     joined (DeviceUnderWay q) (DeviceServesTo Next budget More q) (DeviceUnderWay q) n m0 m1 m2 d0 d1 d2
-    (λ d now d' u piece. model_again budget m0 m1 m2 d.window now.window d'.window d.model now.model d'.model q u
-    piece) way (pauses_there Next budget n q m1 m2 d1 d2 (slice_get d1 n) h)
+    (λ d now d' u piece. (model_joins d.model q).again budget m0 m1 m2 d.window now.window d'.window now.model
+    d'.model u piece) way (pauses_there Next budget n q m1 m2 d1 d2 (slice_get d1 n) h)
 
 -- and one that goes on to the end
 pub devices_ended : (budget : Budget) (n q : ℕ) (m0 m1 m2 : Memory) (d0 d1 d2 : List DeviceState)
@@ -407,8 +290,8 @@ pub devices_ended : (budget : Budget) (n q : ℕ) (m0 m1 m2 : Memory) (d0 d1 d2 
     → At (ServesDevice q) n m0 m2 d0 d2
 devices_ended budget n q m0 m1 m2 d0 d1 d2 way h =
     joined (DeviceUnderWay q) (DeviceServesTo Next budget Done q) (ServesDevice q) n m0 m1 m2 d0 d1 d2
-    (λ d now d' u piece. model_ended budget m0 m1 m2 d.window now.window d'.window d.model now.model d'.model q u
-    piece) way
+    (λ d now d' u piece. (model_joins d.model q).ended budget m0 m1 m2 d.window now.window d'.window now.model
+    d'.model u piece) way
     (served_there Next budget n q m1 m2 d1 d2 Done way.after
     (ap (λ (l : List DeviceState). slice_get l n) way.is ∙ found_again d0 n way.before way.after way.there) h)
 
@@ -418,7 +301,7 @@ pub devices_once : (budget : Budget) (n q : ℕ) (m m' : Memory) (old new : List
     → At (ServesDevice q) n m m' old new
 devices_once budget n q m m' old new d there h =
     at_so (DeviceServesTo First budget Done q) (ServesDevice q) n m m' old new
-    (λ d d' changes. model_once budget d.model q m m' d.window d'.window d'.model changes)
+    (λ d d' changes. (model_joins d.model q).once budget m m' d.window d'.window d'.model changes)
     (served_there First budget n q m m' old new Done d there h)
 
 -- ---- a device that changed before

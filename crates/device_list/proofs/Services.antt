@@ -1,20 +1,20 @@
 -- A piece of a service of a queue, of any device: one that leaves no chain on offer serves as one that may leave some.
-use Rattle.std.proofs.Common.{◌≡◌, ◌≢◌, ◌⊎◌, inl, inr, ℕ, arith, Option, None, Some, List, refl, subst, sym}
+use Rattle.std.proofs.Common.{◌≡◌, ◌≢◌, ◌⊎◌, inl, inr, ℕ, arith, Option, None, Some, refl, subst, sym}
 use Rattle.guest_memory.specs.Memory.{Memory}
 use Rattle.chain.specs.declared.budget.Budget.{Budget}
 use Rattle.chain.specs.declared.budget.Progress.{Progress}
 use Rattle.chain.specs.declared.budget.Progress.TheVariants.{Done, More}
-use Rattle.chain.specs.Service.{Device, Ending, Spent, Faulted, Given, IsExactUnless, Refused}
+use Rattle.chain.specs.Service.{Device, Ending, Spent, Faulted, IsExactUnless, Refused}
 use Rattle.mmio_window.specs.declared.queue.Queue.{Queue}
 use Rattle.mmio_window.specs.declared.stage.Stage.{Stage}
 use Rattle.mmio_window.specs.declared.stage.Stage.TheVariants.{First, Next}
 use Rattle.mmio_window.specs.Pieces.{CompletesAt, IsNotifiedWithin, IsRefusedAt, ServesTo}
-use Rattle.mmio_window.specs.Serving.{IsNotified, NothingHappens}
+use Rattle.mmio_window.specs.Serving.{IsNotified, NothingHappens, site_at}
 use Rattle.mmio_window.specs.Window.{WindowState}
 use Rattle.mmio_window.proofs.Devices.{KeepsDevice, KeepsDevice-self}
 use Rattle.mmio_window.proofs.Pieces.{notified_once}
-use Rattle.mmio_window.proofs.PiecesExact.{finishes_within_exact, goes_on_in_exact, notified_within_exact, pauses_in_exact}
 use Rattle.mmio_window.proofs.Services.{notified_not_refused}
+use Rattle.mmio_window.proofs.Stages.{completes_as, ends_exactly, pauses_as, pauses_exactly}
 
 pub nothing_keeps : {State : Type 0} (m m' : Memory) (w w' : WindowState) (s s' : State)
     → NothingHappens m m' w w' s s' → KeepsDevice w w'
@@ -46,12 +46,9 @@ module _ {State : Type 0} (device : Device State) (budget : Budget) (q : ℕ) (m
       elim h.begins.pauses.spent [ inl e ↦ inl (λ none. cc) | inr e ↦ inr (λ none. cc) ]
   spends_limit Next (Some queue) h = elim h.pauses.spent [ inl e ↦ inl (λ none. cc) | inr e ↦ inr (λ none. cc) ]
 
--- A device serves a chain as another one does that leaves none on offer.
-pub record IsFitting {State : Type 0} (fitting device : Device State) : Type 0 where
-  pub takes : (s : State) → fitting.takes s ≡ device.takes s
-  pub gives : (s : State) (readable : List ℕ) (w : ℕ) (g : Given State) → fitting.Gives s readable w g
-      → device.Gives s readable w g
-  pub never : (s : State) (readable : List ℕ) (w : ℕ) → fitting.LacksMemory s readable w → ⊥
+-- the device that serves a chain as this one does, and leaves none on offer
+abbrev pub fitting : {State : Type 0} → Device State → Device State
+fitting device = record { takes = device.takes; Gives = device.Gives; LacksMemory = λ s readable w. ⊥ }
 
 -- a piece that ends and leaves no chain on offer
 pub record Answered {State : Type 0} (stage : Stage) (device : Device State) (budget : Budget) (q : ℕ)
@@ -60,48 +57,48 @@ pub record Answered {State : Type 0} (stage : Stage) (device : Device State) (bu
   pub answered : ending ≢ Refused
   pub completes : CompletesAt stage device budget q queue ending m m' w w' s s'
 
-module _ {State : Type 0} (fitting device : Device State) (is : IsFitting fitting device) (budget : Budget) (q : ℕ)
-    (m m' : Memory) (w w' : WindowState) (s s' : State) where
-  is_exact : IsExactUnless fitting device (λ s. 0)
+module _ {State : Type 0} (device : Device State) (budget : Budget) (q : ℕ) (m m' : Memory) (w w' : WindowState)
+    (s s' : State) where
+  is_exact : IsExactUnless (fitting device) device (λ s. 0)
   is_exact = record {
-    takes = is.takes;
+    takes = λ s. refl;
     rises = λ s readable w g h. omega arith;
-    gives = λ s readable w g h e. is.gives s readable w g h;
+    gives = λ s readable w g h e. h;
   }
 
   never_refused : (stage : Stage) (queue : Option Queue) (ending : Ending)
-      → CompletesAt stage fitting budget q queue ending m m' w w' s s' → ending ≢ Refused
+      → CompletesAt stage (fitting device) budget q queue ending m m' w w' s s' → ending ≢ Refused
   never_refused First queue ending h e =
-      notified_not_refused fitting is.never q queue ending m m' w w' s s'
-      (notified_once fitting budget q queue ending m m' w w' s s' h) e
+      notified_not_refused (fitting device) (λ s readable w lacks. lacks) q queue ending m m' w w' s s'
+      (notified_once (fitting device) budget q queue ending m m' w w' s s' h) e
   never_refused Next None ending h e = let spent = h.0 in cc
-  never_refused Next (Some queue) Refused h e = is.never _ _ _ h.ends.ends.runs.ends.lacks_memory
+  never_refused Next (Some queue) Refused h e = h.ends.ends.runs.ends.lacks_memory
   never_refused Next (Some queue) Spent h e = cc
   never_refused Next (Some queue) (Faulted fault) h e = cc
 
   -- the end of a piece of the one is one of the other
-  pub answers : (stage : Stage) (queue : Option Queue) → ServesTo stage fitting budget q queue Done m m' w w' s s'
+  answered : (stage : Stage) (queue : Option Queue) (ending : Ending)
+      → CompletesAt stage (fitting device) budget q queue ending m m' w w' s s'
       → Answered stage device budget q queue m m' w w' s s'
-  answers First queue h =
-      let answered = never_refused First queue h.ending h.notified in
+  answered stage queue ending h =
+      let never = never_refused stage queue ending h in
       record {
-        ending = h.ending;
-        answered = answered;
-        completes = notified_within_exact fitting device (λ s. 0) is_exact budget q queue h.ending m m' w w' s s'
-            answered refl h.notified;
+        ending = ending;
+        answered = never;
+        completes = completes_as (fitting device) device budget q m m' w w' s s' s s' stage queue ending (λ e. e)
+            (λ queue last wanted ends. ends_exactly (fitting device) device (λ s. 0) is_exact budget
+            (site_at m queue s) (site_at m' last s') refl stage ending wanted never ends) h;
       }
-  answers Next queue h =
-      let answered = never_refused Next queue h.ending h.finished in
-      record {
-        ending = h.ending;
-        answered = answered;
-        completes = finishes_within_exact fitting device (λ s. 0) is_exact budget q queue h.ending m m' w w' s s'
-            answered refl h.finished;
-      }
+
+  pub answers : (stage : Stage) (queue : Option Queue)
+      → ServesTo stage (fitting device) budget q queue Done m m' w w' s s'
+      → Answered stage device budget q queue m m' w w' s s'
+  answers First queue h = answered First queue h.ending h.notified
+  answers Next queue h = answered Next queue h.ending h.finished
 
   -- and so is every piece
   pub piece_fits : (stage : Stage) (queue : Option Queue) (progress : Progress)
-      → ServesTo stage fitting budget q queue progress m m' w w' s s'
+      → ServesTo stage (fitting device) budget q queue progress m m' w w' s s'
       → ServesTo stage device budget q queue progress m m' w w' s s'
   piece_fits First queue Done h =
       let a = answers First queue h in record { ending = a.ending; notified = a.completes }
@@ -109,7 +106,25 @@ module _ {State : Type 0} (fitting device : Device State) (is : IsFitting fittin
       let a = answers Next queue h in record { ending = a.ending; finished = a.completes }
   piece_fits First None More h = absurd h
   piece_fits Next None More h = absurd h
-  piece_fits First (Some queue) More h =
-      pauses_in_exact fitting device (λ s. 0) is_exact budget q queue m m' w w' s s' refl h
-  piece_fits Next (Some queue) More h =
-      goes_on_in_exact fitting device (λ s. 0) is_exact budget q queue m m' w w' s s' refl h
+  piece_fits stage (Some queue) More h =
+      pauses_as (fitting device) device budget q m m' w w' s s' s s' stage queue
+      (λ last pauses. pauses_exactly (fitting device) device (λ s. 0) is_exact budget (site_at m queue s)
+      (site_at m' last s') refl stage pauses) h
+
+-- ---- of a device that is another one's equal
+
+module _ {State : Type 0} (given device : Device State) (same : given ≡ device) (stage : Stage) (budget : Budget)
+    (q : ℕ) (queue : Option Queue) (progress : Progress) (m m' : Memory) (w w' : WindowState) (s s' : State) where
+  as_device : ServesTo stage given budget q queue progress m m' w w' s s'
+      → ServesTo stage device budget q queue progress m m' w w' s s'
+  as_device h = subst (λ (d : Device State). ServesTo stage d budget q queue progress m m' w w' s s') same h
+
+  -- where each chain was served
+  pub serves_each : ServesTo stage (fitting given) budget q queue progress m m' w w' s s'
+      → ServesTo stage device budget q queue progress m m' w w' s s'
+  serves_each h = as_device (piece_fits given budget q m m' w w' s s' stage queue progress h)
+
+  -- and where one was left on offer
+  pub leaves_one : progress ≡ Done → IsRefusedAt stage given budget q queue m m' w w' s s'
+      → ServesTo stage device budget q queue progress m m' w w' s s'
+  leaves_one done h = as_device (rw done (ends_refused given budget q m m' w w' s s' stage queue h))

@@ -157,8 +157,6 @@ impl<A: Allocator> DeviceModel<A> {
         requires sound { IsSound mem.old window.old }
         requires held { IsHeld mem.old window.old (state_of self.old) }
         ensures serves { ModelServesTo stage budget result (state_of self.old) q mem.old mem.new window.old window.new (state_of self.new) }
-        ensures kind { window.new.kind ≡ window.old.kind }
-        ensures offered { window.new.negotiation.offered ≡ window.old.negotiation.offered }
         ensures same_kind { kind_of (state_of self.new) ≡ kind_of (state_of self.old) }
         ensures same_features { features_of (state_of self.new) ≡ features_of (state_of self.old) }
         ensures range { SameRange mem.old mem.new }
