@@ -15,9 +15,9 @@ use crate::no_memory::NoMemory;
 use crate::outlet::Outlet;
 use crate::receive::Receive;
 use crate::transmit::Transmit;
-use chain::{Budget, Chain, Progress, Virtqueue};
+use chain::{Budget, Chain, Progress};
 use guest_memory::GuestMemory;
-use mmio_window::{Left, Stage, Window, serve_queue, show};
+use mmio_window::{Stage, Window, serve_piece};
 use std::alloc::Allocator;
 
 impl<A: Allocator> ConsoleDevice<A> {
@@ -53,15 +53,11 @@ impl<A: Allocator> ConsoleDevice<A> {
         ensures range { SameRange mem.old mem.new }
         ensures sound { IsSound mem.new window.new }
     {
-        let Some(queue) = window.queue(RECEIVEQ) else {
-            return Progress::Done;
-        };
-        let mut device = Receive;
-        let pending = &mut self.pending;
-        let Ok(left) = serve_queue(&mut device, pending, mem, queue, stage, budget, room) else {
-            unreachable!();
-        };
-        show(window, RECEIVEQ, left, room)
+        let (device, pending) = (&mut Receive, &mut self.pending);
+        match serve_piece(device, pending, RECEIVEQ, mem, window, stage, budget, room) {
+            Ok(progress) => progress,
+            Err(_) => unreachable!(),
+        }
     }
 
     /// Puts out the chains on offer (5.3.6), in the window of this device, behind what stands in `out`. A chain
@@ -116,18 +112,7 @@ impl<A: Allocator> ConsoleDevice<A> {
         ensures range { SameRange mem.old mem.new }
         ensures sound { IsSound mem.new window.new }
     {
-        let Some(queue) = window.queue(TRANSMITQ) else {
-            return Ok(Progress::Done);
-        };
-        let mut device = Transmit;
-        match serve_queue(&mut device, out, mem, queue, stage, budget, room) {
-            Ok(left) => Ok(show(window, TRANSMITQ, left, room)),
-            Err(refused) => {
-                let fault = None;
-                let wanted = queue.close(mem);
-                let _ = show(window, TRANSMITQ, Left::Closed { fault, wanted }, room);
-                Err(refused.why)
-            }
-        }
+        let device = &mut Transmit;
+        serve_piece(device, out, TRANSMITQ, mem, window, stage, budget, room)
     }
 }

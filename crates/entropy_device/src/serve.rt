@@ -13,7 +13,7 @@ use crate::device::EntropyDevice;
 use crate::requestq::Requestq;
 use chain::{Budget, Chain, Progress};
 use guest_memory::GuestMemory;
-use mmio_window::{Stage, Window, serve_queue, show};
+use mmio_window::{Stage, Window, serve_piece};
 use std::alloc::Allocator;
 
 /// The one queue (5.4.2).
@@ -50,14 +50,11 @@ impl EntropyDevice {
         ensures range { SameRange mem.old mem.new }
         ensures sound { IsSound mem.new window.new }
     {
-        let Some(queue) = window.queue(REQUESTQ) else {
-            return Progress::Done;
-        };
-        let mut device = Requestq;
-        let Ok(left) = serve_queue(&mut device, self, mem, queue, stage, budget, room) else {
-            unreachable!();
-        };
-        show(window, REQUESTQ, left, room)
+        let device = &mut Requestq;
+        match serve_piece(device, self, REQUESTQ, mem, window, stage, budget, room) {
+            Ok(progress) => progress,
+            Err(_) => unreachable!(),
+        }
     }
 
     /// Whether the driver waits for bytes: the pool is empty, and a chain is on offer. `room` is as in `serve_piece`.

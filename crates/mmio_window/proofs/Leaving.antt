@@ -1,13 +1,14 @@
 -- From how a piece leaves its queue to what the window shows of it, for any device.
-use Rattle.std.proofs.Common.{◌≡◌, ◌↔◌, ℕ, Bool, Option, Some, None, List, length, refl, sym, subst}
-use Rattle.std.specs.Prelude.{IsTrue}
+use Rattle.std.proofs.Common.{◌≡◌, ◌≢◌, ◌↔◌, ℕ, Bool, Option, Some, None, Result, Ok, Err, List, length, arith, refl, sym, subst}
+use Rattle.std.specs.Prelude.{IfErr, IsTrue, OnErr}
 use Rattle.guest_memory.specs.Memory.{Memory}
 use Rattle.chain.specs.declared.budget.Budget.{Budget}
 use Rattle.chain.specs.declared.budget.Progress.{Progress}
+use Rattle.chain.specs.declared.fault.Fault.{Fault}
 use Rattle.chain.specs.declared.segment.Buffer.{Buffer}
 use Rattle.chain.specs.Bytes.{readable_of, writable_of}
 use Rattle.chain.specs.Pieces.{RunsWithin}
-use Rattle.chain.specs.Service.{Device, Refused}
+use Rattle.chain.specs.Service.{Device, IsExactUnless, Refused, Site}
 use Rattle.chain.proofs.Budgets.{piece_closes}
 use Rattle.mmio_window.specs.declared.service.Left.{Left}
 use Rattle.mmio_window.specs.declared.service.Left.TheVariants.{Open, Closed}
@@ -16,12 +17,33 @@ use Rattle.mmio_window.specs.declared.queue.Queue.{Queue}
 use Rattle.mmio_window.specs.declared.stage.Stage.{Stage}
 use Rattle.mmio_window.specs.FaultNote.{fault_in}
 use Rattle.mmio_window.specs.Leaving.{LeavesQueue, RefusesAt, progress_of, shown, site_at}
-use Rattle.mmio_window.specs.Pieces.{BeginsTo, EndsAt, IsRefusedAt, ServesTo, opened_at}
+use Rattle.mmio_window.specs.Pieces.{BeginsTo, EndsAt, IsRefusedAt, ServesTo, fitting, opened_at}
 use Rattle.mmio_window.specs.Queue.{entry_of, queue_kind}
 use Rattle.mmio_window.specs.Serving.{IsNotified, ending_of}
 use Rattle.mmio_window.specs.Window.{WindowState, with_ring}
 use Rattle.mmio_window.proofs.Pieces.{never_pauses, notified_once}
-use Rattle.mmio_window.proofs.Stages.{ends_at, ends_to, pauses_to, refused_to}
+use Rattle.mmio_window.proofs.Stages.{ends_at, ends_exactly, ends_to, pauses_exactly, pauses_to, refused_to}
+
+-- where no chain is left on offer, each is served
+fitting_exact : {State : Type 0} (device : Device State) → IsExactUnless device (fitting device) (λ s. 0)
+fitting_exact device = record {
+  takes = λ s. refl;
+  rises = λ s readable w given h. omega arith;
+  gives = λ s readable w given h e. h;
+}
+
+no_refusal : (fault : Option Fault) → ending_of fault ≢ Refused
+no_refusal None e = cc
+no_refusal (Some fault) e = cc
+
+pub leaves_fitting : {State : Type 0} (device : Device State) (stage : Stage) (budget : Budget)
+    (old new : Site Queue State) (left : Left) → LeavesQueue device stage budget old new left
+    → LeavesQueue (fitting device) stage budget old new left
+leaves_fitting device stage budget old new Open h =
+    pauses_exactly device (fitting device) (λ s. 0) (fitting_exact device) budget old new refl stage h
+leaves_fitting device stage budget old new (Closed met wanted) h =
+    ends_exactly device (fitting device) (λ s. 0) (fitting_exact device) budget old new refl stage
+    (ending_of (fault_in met)) wanted (no_refusal (fault_in met)) h
 
 module _ {State : Type 0} (device : Device State) (stage : Stage) (budget : Budget) (q : ℕ) where
   serves_at : (queue last : Queue) (left : Left) (m m' : Memory) (w : WindowState) (s s' : State)
@@ -46,8 +68,7 @@ module _ {State : Type 0} (device : Device State) (stage : Stage) (budget : Budg
   pub refuses_to : {E : Type 0} (Refuses : State → Memory → List Buffer → E → Type 0) (found : Option Queue)
       (queue stood last : Queue) (m m' m'' : Memory) (w w' : WindowState) (s s' : State)
       (buffers : List Buffer) (refused : left.Refused E) (wanted : Bool)
-      → ((s : State) (m : Memory) (buffers : List Buffer) (why : E) → Refuses s m buffers why
-      → device.LacksMemory s (readable_of m buffers) (length (writable_of buffers)))
+      → device.LacksMemory s' (readable_of m' buffers) (length (writable_of buffers))
       → Some queue ≡ found → RefusesAt device Refuses stage budget (site_at m queue s)
       (site_at m' stood s') buffers refused
       → m'' ≡ queue_kind.closed m' stood → last ≡ queue_kind.shut stood
@@ -68,7 +89,7 @@ module _ {State : Type 0} (device : Device State) (stage : Stage) (budget : Budg
             buffers = buffers;
             entry = entry_of refused.token;
             offered = left.offered;
-            lacks_memory = lacks s' m' buffers refused.why left.refuses;
+            lacks_memory = lacks;
           };
           stands = refl;
         };
@@ -81,6 +102,12 @@ module _ {State : Type 0} (device : Device State) (stage : Stage) (budget : Budg
       Refused wanted runs closes shuts wants) in
       subst (λ (f : Option Queue). IsRefusedAt stage device budget q f m m'' w w' s s') is
       (rw shows (refused_to device budget q queue last m m'' w s s' stage wanted ends))
+
+-- what follows from why a chain is left holds where one is
+pub on_err : {T E : Type 0} (result : Result T E) (P : E → Type 0) (Q : Type 0) → IfErr result P
+    → ((why : E) → P why → Q) → OnErr result Q
+on_err (Ok x) P Q h so = tt
+on_err (Err why) P Q h so = so why h
 
 -- without limits it is one service
 pub whole : {State : Type 0} (device : Device State) (budget : Budget) (q : ℕ) (found : Option Queue)

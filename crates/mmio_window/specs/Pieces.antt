@@ -1,11 +1,13 @@
 -- A service of a queue in pieces as its driver sees it, for any device. In a pause the queue stands open in
 -- the window, which shows nothing of the service yet.
-use Rattle.std.specs.Prelude.{◌≡◌, ℕ, Bool, Option, None, Some}
+use Rattle.std.specs.Prelude.{◌≡◌, ℕ, Bool, Option, None, Some, List, length}
 use Rattle.guest_memory.specs.Memory.{Memory}
 use Rattle.chain.specs.declared.budget.Budget.{Budget}
 use Rattle.chain.specs.declared.budget.Progress.{Progress}
 use Rattle.chain.specs.declared.budget.Progress.TheVariants.{More, Done}
 use Rattle.chain.specs.declared.fault.Fault.{Fault}
+use Rattle.chain.specs.declared.segment.Buffer.{Buffer}
+use Rattle.chain.specs.Bytes.{readable_of, writable_of}
 use Rattle.chain.specs.Pieces.{IsPart, BeginsWithin, Pauses, EndsWithin, IsServiceWithin}
 use Rattle.chain.specs.Service.{Device, Ending, Refused, Site, Spent}
 use Rattle.mmio_window.specs.declared.queue.Queue.{Queue}
@@ -110,6 +112,21 @@ GoesOnTo device = ServesTo Next device
 abbrev pub IsRefusedAt : {State : Type 0} → Stage → Device State → Budget → ℕ → Option Queue → Memory → Memory
     → WindowState → WindowState → State → State → Type 0
 IsRefusedAt stage device budget q queue = CompletesAt stage device budget q queue Refused
+
+-- the device that serves a chain as this one does, and leaves none on offer
+abbrev pub fitting : {State : Type 0} → Device State → Device State
+fitting device = record { takes = device.takes; Gives = device.Gives; LacksMemory = λ s readable w. ⊥ }
+
+-- The piece ends since the device leaves the chain with these buffers, for this reason. It is a refused one if there was
+-- no memory for that chain.
+pub record LeavesChain {State E : Type 0} (device : Device State) (Refuses : State → Memory → List Buffer → E → Type 0)
+    (stage : Stage) (budget : Budget) (q : ℕ) (queue : Option Queue) (old new : Memory) (before after : WindowState)
+    (s s' : State) (why : E) : Type 0 where
+  pub memory : Memory
+  pub buffers : List Buffer
+  pub refuses : Refuses s' memory buffers why
+  pub ends : device.LacksMemory s' (readable_of memory buffers) (length (writable_of buffers))
+      → IsRefusedAt stage device budget q queue old new before after s s'
 
 -- ---- a piece, whichever it is
 

@@ -13,6 +13,7 @@ mod device_kind;
 mod fault_note;
 mod interrupts;
 mod laws;
+mod piece;
 mod queue;
 mod queue_registers;
 mod register;
@@ -33,6 +34,7 @@ pub use laws::{
     ready_queue_is_its_ring, ready_queue_outlasts, ready_queue_stays, serving_keeps_sound,
     sound_for_the_range, what_is_in_flight_is_ahead,
 };
+pub use piece::serve_piece;
 pub use queue::{Queue, Token};
 pub use queue_registers::QueueRegisters;
 pub use register::{Register, may_stop_queues};

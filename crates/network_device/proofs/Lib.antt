@@ -1,7 +1,6 @@
 pub mod Answering
 pub mod Cutting
 pub mod Fitting
-pub mod Pieces
 pub mod Receiving
 pub mod Rooms
 pub mod Rows

@@ -12,9 +12,9 @@ use crate::device::{NetworkDevice, RECEIVEQ, TRANSMITQ};
 use crate::outlet::FrameOutlet;
 use crate::receive::{Receive, skip};
 use crate::transmit::{NoRoom, Transmit};
-use chain::{Budget, Chain, Progress, Virtqueue};
+use chain::{Budget, Chain, Progress};
 use guest_memory::GuestMemory;
-use mmio_window::{Left, Stage, Window, serve_queue, show};
+use mmio_window::{Stage, Window, serve_piece};
 use std::alloc::Allocator;
 
 impl<A: Allocator> NetworkDevice<A> {
@@ -38,28 +38,15 @@ impl<A: Allocator> NetworkDevice<A> {
         ensures range { SameRange mem.old mem.new }
         ensures sound { IsSound mem.new window.new }
     {
-        let Some(queue) = window.queue(RECEIVEQ) else {
-            return Progress::Done;
-        };
-        let mut device = Receive {
+        let device = &mut Receive {
             dropped: self.dropped_in,
         };
-        let served = serve_queue(
-            &mut device,
-            &mut self.waiting,
-            mem,
-            queue,
-            stage,
-            budget,
-            room,
-        );
+        let waiting = &mut self.waiting;
+        let served = serve_piece(device, waiting, RECEIVEQ, mem, window, stage, budget, room);
         self.dropped_in = device.dropped;
         match served {
-            Ok(left) => show(window, RECEIVEQ, left, room),
+            Ok(progress) => progress,
             Err(_) => {
-                let fault = None;
-                let wanted = queue.close(mem);
-                let _ = show(window, RECEIVEQ, Left::Closed { fault, wanted }, room);
                 self.drop_waiting();
                 Progress::Done
             }
@@ -102,24 +89,11 @@ impl<A: Allocator> NetworkDevice<A> {
         ensures range { SameRange mem.old mem.new }
         ensures sound { IsSound mem.new window.new }
     {
-        let Some(queue) = window.queue(TRANSMITQ) else {
-            return Ok(Progress::Done);
-        };
-        let mut device = Transmit {
+        let device = &mut Transmit {
             dropped: self.dropped_out,
         };
-        match serve_queue(&mut device, out, mem, queue, stage, budget, room) {
-            Ok(left) => {
-                self.dropped_out = device.dropped;
-                Ok(show(window, TRANSMITQ, left, room))
-            }
-            Err(refused) => {
-                self.dropped_out = device.dropped;
-                let fault = None;
-                let wanted = queue.close(mem);
-                let _ = show(window, TRANSMITQ, Left::Closed { fault, wanted }, room);
-                Err(refused.why)
-            }
-        }
+        let served = serve_piece(device, out, TRANSMITQ, mem, window, stage, budget, room);
+        self.dropped_out = device.dropped;
+        served
     }
 }
