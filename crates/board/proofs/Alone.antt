@@ -7,7 +7,7 @@ use Rattle.board.specs.declared.event.EventKind.{EventKind}
 use Rattle.board.specs.declared.reply.Reply.TheVariants.{NoMemory}
 use Rattle.board.specs.declared.reply.Record.{Record}
 use Rattle.board.specs.Image.{Health}
-use Rattle.board.specs.Backing.{HostDisk}
+use Rattle.hosted_disk.specs.Disk.{HostedDisk}
 use Rattle.board.specs.Machine.{Gives, GivesBy, GivesOverImage, IsToldAlone, RunsOnItsOwn, record_of}
 use Rattle.board.specs.Steps.{HoldsAlong, IsAnsweredBy}
 use Rattle.board.specs.Outcome.{Outcome}
@@ -44,7 +44,7 @@ served_over_image state what old new outcome (inr refused) answered stood =
     answered stood)
 
 -- and whoever has the guest's disk
-served_by : {A : Type 0} (host : Option HostDisk) (state : SlotState) (what : EventKind A) (old new : Health)
+served_by : {A : Type 0} (host : Option HostedDisk) (state : SlotState) (what : EventKind A) (old new : Health)
     (outcome : Outcome A) → MayGiveBy host state what old new outcome → outcome.reply ≢ NoMemory
     → new.failures ≡ old.failures → GivesBy host state what old new outcome
 served_by None state what old new outcome given answered stood =

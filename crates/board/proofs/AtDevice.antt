@@ -27,7 +27,7 @@ use Rattle.board.specs.declared.event.DeviceEvent.TheVariants.{Write, Supply, Re
 use Rattle.board.specs.declared.pause.Pause.{Pause}
 use Rattle.board.specs.declared.pause.Service.{Service}
 use Rattle.board.specs.declared.pause.Service.TheVariants.{Block, Receive, Transmit, Further}
-use Rattle.board.specs.Backing.{HostDisk}
+use Rattle.hosted_disk.specs.Disk.{HostedDisk}
 use Rattle.board.specs.Devices.{GivesDevice, IsUnmet, device_asks, devices_readied, further_service, waits_there}
 use Rattle.board.specs.Image.{Health}
 use Rattle.board.specs.ImageDisks.{GivesAtDevice, IsFailedAtImage, IsImageDiskService, IsRefusedAtDevice, ServesImageDisk, bytes_in, device_readied, image_asked, image_device, image_disk_of, image_served}
@@ -58,17 +58,17 @@ refused_by_image n what state before after outcome None beside image h = beside 
 refused_by_image n what state before after outcome (Some disk) beside image h = image disk refl h
 
 -- a slot whose own disk the host serves has none
-none_hosted : (host : Option HostDisk) (disk : HostDisk) (spare : ℕ) (found : Option BlockDevice) → host ≡ Some disk
+none_hosted : (host : Option HostedDisk) (disk : HostedDisk) (spare : ℕ) (found : Option BlockDevice) → host ≡ Some disk
     → image_disk_of host spare found ≡ None
 none_hosted host disk spare found is = rw is refl
 
-pub served_hosted : (n q : ℕ) (state : SlotState) (disk : HostDisk) → state.host ≡ Some disk
+pub served_hosted : (n q : ℕ) (state : SlotState) (disk : HostedDisk) → state.host ≡ Some disk
     → image_served (Further n q) state ≡ None
 served_hosted n zero state disk is = none_hosted state.host disk state.spare (image_at n state.devices) is
 served_hosted n (suc q) state disk is = refl
 
 -- where none is there
-pub none_there : (host : Option HostDisk) (spare : ℕ) (found : Option BlockDevice) → found ≡ None
+pub none_there : (host : Option HostedDisk) (spare : ℕ) (found : Option BlockDevice) → found ≡ None
     → image_disk_of host spare found ≡ None
 none_there None spare found is = rw is refl
 none_there (Some disk) spare found is = refl
@@ -160,7 +160,7 @@ asked_write n DropSent state disk is = by_sent (sent_by n state.devices) is
 asked_write n _ state disk is = absurd (cc is)
 
 -- and what is done to a device of a slot whose own disk the host serves asks none
-pub asked_hosted : {A : Type 0} (n : ℕ) (what : DeviceEvent A) (state : SlotState) (own : HostDisk)
+pub asked_hosted : {A : Type 0} (n : ℕ) (what : DeviceEvent A) (state : SlotState) (own : HostedDisk)
     → state.host ≡ Some own → image_asked n what state ≡ None
 asked_hosted n what state own hosted = by_asked (device_asks n what state)
   where
@@ -247,7 +247,7 @@ pub record IsAsked (n : ℕ) (state : SlotState) (disk : BlockDevice) : Type 0 w
   pub there : slice_get state.devices n ≡ Some device
   pub is_disk : image_of device.model ≡ Some disk
 
-image_disk_found : (host : Option HostDisk) (spare : ℕ) (found : Option BlockDevice) (disk : BlockDevice)
+image_disk_found : (host : Option HostedDisk) (spare : ℕ) (found : Option BlockDevice) (disk : BlockDevice)
     → image_disk_of host spare found ≡ Some disk → found ≡ Some disk
 image_disk_found (Some own) spare found disk is = absurd (cc is)
 image_disk_found None spare None disk is = absurd (cc is)
@@ -404,6 +404,6 @@ hosted_serves_none Receive state hosted = refl
 hosted_serves_none Transmit state hosted = refl
 hosted_serves_none (Further n q) state hosted = by_host state.host refl hosted
   where
-    by_host : (host : Option HostDisk) → state.host ≡ host → IsSome host → image_served (Further n q) state ≡ None
+    by_host : (host : Option HostedDisk) → state.host ≡ host → IsSome host → image_served (Further n q) state ≡ None
     by_host None is some = absurd (cc some)
     by_host (Some disk) is some = served_hosted n q state disk is

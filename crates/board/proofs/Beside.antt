@@ -1,5 +1,6 @@
 -- An event in which the disk has no part: what it keeps of the slot.
 use Rattle.std.proofs.Common.{◌≡◌, ◌≢◌, ℕ, List, [], Bool, false, Option, Some, None, refl, sym, ◌∙◌, ap, subst}
+use Rattle.std.specs.Option.{option_map}
 use Rattle.guest_memory.specs.Memory.{Memory, SameRange}
 use Rattle.guest_memory.proofs.Ranges.{same_trans}
 use Rattle.board.specs.declared.event.SlotWindow.{SlotWindow}
@@ -11,7 +12,8 @@ use Rattle.board.specs.declared.event.EventKind.{EventKind}
 use Rattle.board.specs.declared.event.EventKind.TheVariants.{Write}
 use Rattle.board.specs.declared.pause.Service.{Service}
 use Rattle.board.specs.declared.pause.Service.TheVariants as service
-use Rattle.board.specs.Backing.{HostDisk, device_extent, sectors_by}
+use Rattle.hosted_disk.specs.Disk.{HostedDisk}
+use Rattle.board.specs.Backing.{device_extent, held_disk, sectors_by}
 use Rattle.board.specs.Flights.{KeepsFlights}
 use Rattle.board.specs.Hosting.{block_beside, is_block_task}
 use Rattle.board.specs.Machine.{with_write}
@@ -20,7 +22,7 @@ use Rattle.board.proofs.Seats.{same_whole}
 use Rattle.board.specs.Task.{Task, Serve}
 
 -- it has as many sectors as its guest's disk
-pub device_count : (host : Option HostDisk) (extent : Extent)
+pub device_count : (host : Option HostedDisk) (extent : Extent)
     → (device_extent host extent).count ≡ sectors_by host extent.count
 device_count None extent = refl
 device_count (Some disk) extent = refl
@@ -42,7 +44,7 @@ pub keeps_as : {A : Type 0} {what : EventKind A} (old new : BoardSlot) (state : 
     → state.memory ≡ old.memory → KeepsPlace old new → KeepsFlights what old new
 keeps_as old new state is block host memory place = record {
   block = λ free. ap (λ (s : SlotState). s.block) is ∙ block;
-  host = ap (λ (s : SlotState). s.host) is ∙ host;
+  host = ap (option_map (held_disk false)) (ap (λ (s : SlotState). s.host) is ∙ host);
   range = range_of old.memory new.memory (ap (λ (s : SlotState). s.memory) is ∙ memory);
   place = place;
 }
@@ -63,7 +65,7 @@ pub keeps_on : {A : Type 0} {what : EventKind A} (old mid new : BoardSlot) → K
     → KeepsFlights what old new
 keeps_on old mid new keeps block host range place = record {
   block = λ free. block ∙ keeps.block free;
-  host = host ∙ keeps.host;
+  host = ap (option_map (held_disk false)) host ∙ keeps.host;
   range = same_trans old.memory mid.memory new.memory keeps.range range;
   place = place_still old mid new keeps.place place;
 }

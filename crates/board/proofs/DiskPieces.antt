@@ -19,9 +19,9 @@ use Rattle.block_device.specs.declared.operation.HostEvent.{HostEvent}
 use Rattle.block_device.specs.declared.operation.HostEvent.TheVariants.{Drop}
 use Rattle.block_device.specs.Flights.{InFlight}
 use Rattle.device_list.specs.Card.{with_frame}
-use Rattle.device_list.specs.Device.{DeviceState, device_written, received, supplied, taking, with_model}
+use Rattle.device_list.specs.Device.{DeviceState, device_written, received, supplied, with_model}
 use Rattle.device_list.specs.List.{DevicesServeTo, ServesAny}
-use Rattle.device_list.specs.Model.{Block, Console, Entropy, Image, ModelServesTo, ModelState, Network, without_sent}
+use Rattle.device_list.specs.Model.{Block, Console, Entropy, Image, ModelServesTo, ModelState, Network, disk_of, without_sent}
 use Rattle.board.specs.declared.event.DeviceEvent.{DeviceEvent}
 use Rattle.board.specs.declared.event.DeviceEvent.TheVariants.{Write, Supply, Receive, TakeSent, DropSent}
 use Rattle.board.specs.declared.event.EventKind.{EventKind}
@@ -32,9 +32,9 @@ use Rattle.board.specs.declared.pause.Service.{Service}
 use Rattle.board.specs.declared.pause.Service.TheVariants as service
 use Rattle.board.specs.declared.pause.Turn.{Turn}
 use Rattle.board.specs.declared.pause.Turn.TheVariants as turn
-use Rattle.board.specs.Backing.{tags_in}
 use Rattle.board.specs.Devices.{devices_readied}
-use Rattle.board.specs.HostedDisks.{Further, LeavesTagOf, Own, SlotDisk, in_flight_of, said_of}
+use Rattle.board.specs.HostedDisks.{LeavesTagOf, said_of}
+use Rattle.board.specs.Units.{Further, Own, SlotDisk, in_flight_of}
 use Rattle.board.specs.Hosting.{tag_of}
 use Rattle.board.specs.Image.{Health}
 use Rattle.board.specs.ImageDisks.{ServesImageDisk, device_readied, image_served}
@@ -42,7 +42,7 @@ use Rattle.board.specs.Machine.{readied, with_input, with_write}
 use Rattle.board.specs.Pausing.{Begins, ComesTo, GoesOn, GoesOnBy, IsPiece, IsPieceAtDevice, TurnsTo, asked, is_hosts}
 use Rattle.board.specs.Slot.{SlotState}
 use Rattle.board.specs.World.{MayGive}
-use Rattle.board.proofs.DiskSteps.{LeavesDisks, Left, ModelSteps, Same, Stays, StepsTo, at_left, cards_leave, changed_left, comes, disk_serves, flights_in, further_stays, holds_in, model_steps, no_disk, same_model, sent_leaves, supplied_leaves, taking_leaves, unchanged}
+use Rattle.board.proofs.DiskSteps.{Left, ModelSteps, Stays, StepsTo, at_left, cards_leave, changed_left, comes, disk_serves, further_stays, model_steps, same_model, sent_leaves, supplied_leaves, taking_leaves, unchanged}
 use Rattle.board.proofs.Waiting.{outlasts_by}
 
 -- ---- what a piece leaves, as if it were an event of a further device of which the host says nothing
@@ -71,16 +71,13 @@ quiet_leaves A disk tag k =
 module _ (Says : HostEvent → Type 0) (stage : Stage) (budget : Budget) (came : Progress) where
   piece_steps : (model : ModelState) (q : ℕ) (m m' : Memory) (w w' : WindowState) (other : ModelState)
       → ModelServesTo stage budget came model q m m' w w' other → ModelSteps Says model other
-  piece_steps (Entropy pool) zero m m' w w' other h =
-      no_disk Says (Entropy pool) other refl refl (ap flights_in h.is) (ap holds_in h.is)
+  piece_steps (Entropy pool) zero m m' w w' other h = Stays (ap disk_of h.is)
   piece_steps (Entropy pool) (suc q) m m' w w' other h = same_model Says (Entropy pool) other h.1.state
-  piece_steps (Network card) q m m' w w' other h =
-      no_disk Says (Network card) other refl refl (ap flights_in h.is) (ap holds_in h.is)
+  piece_steps (Network card) q m m' w w' other h = Stays (ap disk_of h.is)
   piece_steps (Block disk) q m m' w w' other h =
       disk_serves Says disk q m m' w w' h.1.after h.1.serves other h.1.is
   piece_steps (Image disk) q m m' w w' other h = same_model Says (Image disk) other h.1.state
-  piece_steps (Console terminal) q m m' w w' other h =
-      no_disk Says (Console terminal) other refl refl (ap flights_in h.is) (ap holds_in h.is)
+  piece_steps (Console terminal) q m m' w w' other h = Stays (ap disk_of h.is)
 
 -- device n, as device k was served
 served_left : (A : Type 0) (k q n : ℕ) (stage : Stage) (budget : Budget) (came : Progress) (d : DeviceState)
@@ -95,25 +92,19 @@ served_left A k q n stage budget came d m m' old new there = by_found (slice_get
         at_left k TakeSent n d old new h.before h.after there h.there h.is (λ same.
         piece_steps _ stage budget came h.before.model q m m' h.before.window h.after.window h.after.model h.changes)
 
-by_leaves : {Says : HostEvent → Type 0} (change : ModelState → ModelState) → LeavesDisks change → (model : ModelState)
-    → ModelSteps Says model (change model)
-by_leaves change leaves model = Same (leaves model).0 (leaves model).1
-
 -- as it was readied for what is done to device k
 readied_left : {A : Type 0} (k n : ℕ) (what : DeviceEvent A) (d : DeviceState) (m : Memory) (old : List DeviceState)
     → slice_get old n ≡ Some d → Left {A = A} k TakeSent n d (devices_readied k what m old)
 readied_left k n (Write offset width value) d m old there =
     changed_left k TakeSent n d (device_written offset width value m) old _ there refl (λ e.
-    by_leaves (taking (action_of offset width value e.window))
-    (taking_leaves (action_of offset width value e.window)) e.model)
+    Stays (taking_leaves (action_of offset width value e.window) e.model))
 readied_left k n (Supply bytes) d m old there =
-    changed_left k TakeSent n d (with_model (supplied bytes)) old _ there refl (λ e.
-    by_leaves (supplied bytes) (supplied_leaves bytes) e.model)
+    changed_left k TakeSent n d (with_model (supplied bytes)) old _ there refl (λ e. Stays (supplied_leaves bytes e.model))
 readied_left k n (Receive frame) d m old there =
     changed_left k TakeSent n d (with_model (received frame)) old _ there refl (λ e.
-    by_leaves (received frame) (cards_leave (with_frame frame)) e.model)
+    Stays (cards_leave (with_frame frame) e.model))
 readied_left k n DropSent d m old there =
-    changed_left k TakeSent n d (with_model without_sent) old _ there refl (λ e. by_leaves without_sent sent_leaves e.model)
+    changed_left k TakeSent n d (with_model without_sent) old _ there refl (λ e. Stays (sent_leaves e.model))
 readied_left k n what d m old there = unchanged k TakeSent n d old old there refl
 
 -- ---- the slot
@@ -121,11 +112,10 @@ readied_left k n what d m old there = unchanged k TakeSent n d old old there ref
 module _ (A : Type 0) where
   -- the disk stays where its slot keeps this
   kept : (disk : SlotDisk) (old new wanted : SlotState) → new ≡ wanted → wanted.host ≡ old.host
-      → wanted.on_hold ≡ old.on_hold → wanted.devices ≡ old.devices → StepsTo {A = A} disk (quiet 0) old new
-  kept Own old new wanted is host on_hold devices =
-      Stays (ap (λ (s : SlotState). tags_in s.host) is ∙ ap tags_in host) (ap (λ (s : SlotState). s.on_hold) is ∙ on_hold)
-  kept (Further n) old new wanted is host on_hold devices =
-      further_stays n (quiet 0) old new (ap (λ (s : SlotState). s.devices) is ∙ devices)
+      → wanted.devices ≡ old.devices → StepsTo {A = A} disk (quiet 0) old new
+  kept Own old new wanted is host devices = Stays (ap (λ (s : SlotState). s.host) is ∙ host)
+  kept (Further n) old new wanted is host devices =
+      further_stays {A = A} n (quiet 0) old new (ap (λ (s : SlotState). s.devices) is ∙ devices)
 
   -- a further disk, as what is done to device k leaves the devices
   left_steps : (k n : ℕ) (old new : SlotState)
@@ -135,15 +125,15 @@ module _ (A : Type 0) where
     where
       by_found : (found : Option DeviceState) → slice_get old.devices n ≡ found
           → StepsTo {A = A} (Further n) (quiet k) old new
-      by_found None none = comes n (quiet k) old new none
-      by_found (Some d) there = model_steps k n TakeSent old new d there (leaves d there)
+      by_found None none = comes {A = A} n (quiet k) old new none
+      by_found (Some d) there = model_steps {A = A} k n TakeSent old new d there (leaves d there)
 
   -- and as a disk over the image leaves them
   image_steps : {Serves : Option Queue → Memory → Memory → WindowState → WindowState → Disk → Disk → Type 0}
       (disk : SlotDisk) (k : ℕ) (image : BlockDevice) (old new : SlotState) (before after : Health)
       → ServesImageDisk Serves k image old new before after → StepsTo {A = A} disk (quiet k) old new
   image_steps Own k image old new before after h =
-      Stays (ap (λ (s : SlotState). tags_in s.host) h.is) (ap (λ (s : SlotState). s.on_hold) h.is)
+      Stays (ap (λ (s : SlotState). s.host) h.is)
   image_steps (Further n) k image old new before after h =
       left_steps k n old new (λ d there.
       at_left k TakeSent n d old.devices new.devices h.device (record h.device { window = h.window }) there h.there
@@ -162,36 +152,38 @@ module _ (A : Type 0) (disk : SlotDisk) (tag : ℕ) (here : InFlight) where
       (before after : Health) (new : SlotState) (output : List ℕ)
       → IsPiece service stage budget came old before after new output → KeepsFlight old new
   piece_flies service.Block stage budget came old before after new output (inl h) =
-      quietly 0 old new (kept A disk old new _ h.piece.is refl refl refl)
+      quietly 0 old new (kept A disk old new _ h.piece.is refl refl)
   piece_flies service.Block stage budget came old before after new output (inr h) =
-      quietly 0 old new (kept A disk old new _ h.piece.is refl refl refl)
-  piece_flies service.Receive stage budget came old before after new output h = quietly 0 old new (kept A disk old new _ h.is refl refl refl)
-  piece_flies service.Transmit stage budget came old before after new output h = quietly 0 old new (kept A disk old new _ h.is refl refl refl)
+      quietly 0 old new (kept A disk old new _ h.piece.is refl refl)
+  piece_flies service.Receive stage budget came old before after new output h = quietly 0 old new (kept A disk old new _ h.is refl refl)
+  piece_flies service.Transmit stage budget came old before after new output h = quietly 0 old new (kept A disk old new _ h.is refl refl)
   piece_flies (service.Further k q) stage budget came old before after new output h =
       quietly k old new (at_device disk (image_served (service.Further k q) old) h)
     where
       at_device : (disk : SlotDisk) (found : Option BlockDevice)
           → IsPieceAtDevice found k q stage budget came old before after new output
           → StepsTo {A = A} disk (quiet k) old new
-      at_device Own None h = Stays (ap (λ (s : SlotState). tags_in s.host) h.is) (ap (λ (s : SlotState). s.on_hold) h.is)
+      at_device Own None h = Stays (ap (λ (s : SlotState). s.host) h.is)
       at_device (Further n) None h =
           left_steps A k n old new (λ d there.
           served_left A k q n stage budget came d old.memory new.memory old.devices new.devices there h.served)
       at_device disk (Some image) (inl h) = image_steps A disk k image old new before after h.0.serves
       at_device disk (Some image) (inr h) = image_steps A disk k image old new before after h.0.serves
 
+  still : (old new : SlotState) → new.host ≡ old.host → new.devices ≡ old.devices → KeepsFlight old new
+  still old new host devices = quietly 0 old new (kept A disk old new new refl host devices)
+
   -- what a turn begins with
   readied_flies : (what : EventKind A) (old : SlotState) → KeepsFlight old (readied what old)
   readied_flies (event.Write window.Block offset width value) old =
-      quietly 0 old (with_write window.Block offset width value old) (kept A disk old _ _ refl refl refl refl)
+      still old (with_write window.Block offset width value old) refl refl
   readied_flies (event.Write window.Console offset width value) old =
-      quietly 0 old (with_write window.Console offset width value old) (kept A disk old _ _ refl refl refl refl)
-  readied_flies (event.Input bytes) old =
-      quietly 0 old (with_input bytes old) (kept A disk old _ _ refl refl refl refl)
+      still old (with_write window.Console offset width value old) refl refl
+  readied_flies (event.Input bytes) old = still old (with_input bytes old) refl refl
   readied_flies (event.Device k what) old = quietly k old (device_readied k what old) (at_device disk)
     where
       at_device : (disk : SlotDisk) → StepsTo {A = A} disk (quiet k) old (device_readied k what old)
-      at_device Own = Stays refl refl
+      at_device Own = Stays refl
       at_device (Further n) =
           left_steps A k n old (device_readied k what old) (λ d there.
           readied_left k n what d old.memory old.devices there)
@@ -203,7 +195,7 @@ module _ (A : Type 0) (disk : SlotDisk) (tag : ℕ) (here : InFlight) where
   comes_flies pause stage budget old before after new output (turn.Answered reply) (inl (done, h)) =
       piece_flies pause.service stage budget progress.Done old before after new output h
   comes_flies pause stage budget old before after new output (turn.Answered reply) (inr (lacks, (is, h))) =
-      quietly 0 old new (kept A disk old new _ h.is refl refl refl)
+      quietly 0 old new (kept A disk old new _ h.is refl refl)
   comes_flies pause stage budget old before after new output (turn.More next) (is, h) =
       piece_flies pause.service stage budget progress.More old before after new output h
 

@@ -12,12 +12,11 @@ use Rattle.mmio_window.specs.Window.{WindowState}
 use Rattle.mmio_window.specs.Writing.{action_of}
 use Rattle.block_device.specs.declared.device.BlockDevice.{BlockDevice}
 use Rattle.block_device.specs.declared.operation.HostEvent.{HostEvent}
-use Rattle.block_device.specs.Flights.{HostedQueue, InFlight}
-use Rattle.hosted_disk.specs.Disk.{HostedDisk, LooksUnless, ServesDisk, queue_of}
-use Rattle.hosted_disk.specs.Told.{QueueTold, held_by}
+use Rattle.hosted_disk.specs.Disk.{HostedDisk, LooksAtQueue, ServesDisk}
+use Rattle.hosted_disk.specs.Told.{DoesAsTold}
 use Rattle.device_list.specs.Card.{Card, with_frame, with_link}
 use Rattle.device_list.specs.Device.{DeviceState, Receives, ServesDevice, ServesNotified, TakesSent, Told, Writes, device_written, linked, notified_by, resized, taking, with_model}
-use Rattle.device_list.specs.List.{At, are_at_work, changed_at}
+use Rattle.device_list.specs.List.{At, are_at_work, changed_at, disk_at}
 use Rattle.snapshot.specs.declared.saved.SavedDevice.{SavedDevice}
 use Rattle.device_list.specs.Saved.{device_window_restored, first_restored, with_window}
 use Rattle.device_list.specs.Model.{Block, Console, Entropy, Image, ModelState, Network, Serves, configured, disk_of, supplied_model, with_card, with_terminal, without_sent}
@@ -26,10 +25,11 @@ use Rattle.board.specs.declared.event.DeviceEvent.{DeviceEvent}
 use Rattle.board.specs.declared.event.DeviceEvent.TheVariants.{Plug, Read, Write, Supply, Receive, TakeSent, DropSent, SetLink, Resize, Host}
 use Rattle.board.specs.declared.event.EventKind.{EventKind}
 use Rattle.board.specs.declared.event.EventKind.TheVariants as event
-use Rattle.board.specs.Backing.{tags_in}
+use Rattle.board.specs.Backing.{KeepsHost}
 use Rattle.board.specs.Devices.{DoesIf, DoesTo}
-use Rattle.board.specs.HostedDisks.{DiskUnit, Further, Own, SlotDisk, in_flight_of, on_hold_of, said_of, said_there, unit_of}
-use Rattle.board.specs.Hosting.{IsNoRestore, hosted_device, own_disk}
+use Rattle.board.specs.HostedDisks.{said_of, said_there}
+use Rattle.board.specs.Units.{Further, Own, SlotDisk, disk_for}
+use Rattle.board.specs.Hosting.{IsNoRestore}
 use Rattle.board.specs.Image.{Health}
 use Rattle.board.specs.ImageDisks.{image_asked}
 use Rattle.board.proofs.AtDevice.{IsLeftBy, by_image, image_left, refused_by_image}
@@ -39,187 +39,126 @@ use Rattle.board.specs.Restoring.{IsTakenUp, RestoresUnless}
 use Rattle.board.specs.Slot.{SlotState}
 use Rattle.board.specs.World.{MayGive, MayGiveOverImage}
 use Rattle.board.proofs.FurtherDevices.{of_device}
-use Rattle.board.proofs.HostedDisks.{behind_window, further_over}
+use Rattle.board.proofs.HostedDisks.{further_over}
 use Rattle.board.proofs.Identities.{IsBesideDevices, given_fixed, readied_fixed}
 use Rattle.board.proofs.Lists.{get_set, others_kept}
+use Rattle.board.proofs.Units.{disk_there}
 use Rattle.board.proofs.Ways.{Looks, Passes, Rests, Says, Waits, Way, by_disk}
 
--- The disk stays; a snapshot says whether it is on hold; it isn't there yet; its queue is looked at; or it does as its host
--- says.
-pub data StepsTo {A : Type 0} (disk : SlotDisk) (what : EventKind A) (old new : SlotState) : Type 0 where
-  Stays :
-      in_flight_of disk new ≡ in_flight_of disk old → on_hold_of disk new ≡ on_hold_of disk old
-      → StepsTo disk what old new
-  Retakes : (IsNoRestore what → ⊥) → in_flight_of disk new ≡ in_flight_of disk old → StepsTo disk what old new
-  Comes : in_flight_of disk old ≡ [] → on_hold_of disk old ≡ false → StepsTo disk what old new
+-- The disk stays; a snapshot says whether it is on hold; it isn't there yet; its queue is looked at; or the host says this of
+-- it, as may be.
+pub data DiskSteps (May : HostEvent → Type 0) (Restores : Type 0) (old new : Option HostedDisk) : Type 0 where
+  Stays : new ≡ old → DiskSteps May Restores old new
+  Retakes : Restores → KeepsHost old new → DiskSteps May Restores old new
+  Comes : old ≡ None → DiskSteps May Restores old new
   IsLooked :
-      (device : BlockDevice) (q q' : HostedQueue) → LooksUnless (on_hold_of disk old) device q q'
-      → q.tags ≡ in_flight_of disk old → in_flight_of disk new ≡ q'.tags
-      → on_hold_of disk new ≡ on_hold_of disk old → StepsTo disk what old new
+      (disk after : HostedDisk) (m m' : Memory) (w w' : WindowState) → LooksAtQueue disk m m' w w' after
+      → old ≡ Some disk → new ≡ Some after → DiskSteps May Restores old new
   IsTold :
-      (said : HostEvent) → said_of disk what ≡ Some said → (device : BlockDevice) (q q' : HostedQueue)
-      → QueueTold said device (on_hold_of disk old) q q' → q.tags ≡ in_flight_of disk old
-      → in_flight_of disk new ≡ q'.tags → on_hold_of disk new ≡ held_by said (on_hold_of disk old)
-      → StepsTo disk what old new
+      (said : HostEvent) → May said → (disk after : HostedDisk) (m m' : Memory) (w w' : WindowState)
+      → DoesAsTold said disk m m' w w' after → old ≡ Some disk → new ≡ Some after → DiskSteps May Restores old new
+
+-- a disk of a slot in an event
+abbrev pub StepsTo : {A : Type 0} → SlotDisk → EventKind A → SlotState → SlotState → Type 0
+StepsTo disk what old new =
+    DiskSteps (λ said. said_of disk what ≡ Some said) (IsNoRestore what → ⊥) (disk_for disk old) (disk_for disk new)
 
 -- ---- the slot's own
 
-own_passes : {A : Type 0} (what : EventKind A) (old new : SlotState) → new.host ≡ old.host
-    → (IsNoRestore what → new.on_hold ≡ old.on_hold) → StepsTo Own what old new
-own_passes (event.Restore bytes) old new host keeps = Retakes (λ never. never) (ap tags_in host)
-own_passes _ old new host keeps = Stays (ap tags_in host) (keeps tt)
-
-own_stays : {A : Type 0} (what : EventKind A) (old new : SlotState) → new ≡ old → StepsTo Own what old new
-own_stays what old new is = Stays (ap (λ (s : SlotState). tags_in s.host) is) (ap (λ (s : SlotState). s.on_hold) is)
+own_passes : {A : Type 0} (what : EventKind A) (old new : SlotState) → KeepsHost old.host new.host
+    → (IsNoRestore what → new.host ≡ old.host) → StepsTo Own what old new
+own_passes (event.Restore bytes) old new host keeps = Retakes (λ never. never) host
+own_passes _ old new host keeps = Stays (keeps tt)
 
 own_way : {A : Type 0} (what : EventKind A) (old : SlotState) (before : Health) (outcome : Outcome A)
     → Way (λ (o : Outcome A). MayGiveOverImage old what before before o) old what outcome
     → StepsTo Own what old outcome.state
-own_way {A} what old before outcome (Waits waits h) =
-    own_stays what old outcome.state (ap (λ (o : Outcome A). o.state) h)
+own_way {A} what old before outcome (Waits waits h) = Stays (ap (λ (o : Outcome A). o.state.host) h)
 own_way what old before outcome (Passes own free quiet h) =
     let kept = given_fixed old what before before outcome h in
-    own_passes what old outcome.state kept.host kept.on_hold
+    own_passes what old outcome.state kept.host kept.kept
 own_way what old before outcome (Looks rings looks h) =
     let ready = readied what old in
-    let new = outcome.state in
-    let kept = readied_fixed what old rings in
-    let q = queue_of ready.memory ready.block (own_disk ready) in
-    let q' = queue_of new.memory new.block looks.disk in
-    IsLooked (hosted_device ready) q q'
-    (subst (λ (b : Bool). LooksUnless b (hosted_device ready) q q') (kept.on_hold tt) looks.does.looks)
-    (ap tags_in kept.host) (ap (λ (s : SlotState). tags_in s.host) looks.is)
-    (ap (λ (s : SlotState). s.on_hold) looks.is
-    ∙ ap (λ (disk : HostedDisk). disk.on_hold) looks.does.is ∙ kept.on_hold tt)
-own_way {A} what old before outcome (Rests said is h) =
-    own_stays what old outcome.state (ap (λ (o : Outcome A). o.state) h)
+    IsLooked looks.before.disk looks.after.disk ready.memory outcome.state.memory looks.before.window looks.after.window
+    looks.does
+    (sym ((readied_fixed what old rings).kept tt) ∙ disk_there Own ready looks.before looks.there)
+    (ap (λ (s : SlotState). s.host) looks.is)
+own_way {A} what old before outcome (Rests said is h) = Stays (ap (λ (o : Outcome A). o.state.host) h)
 own_way what old before outcome (Says said is says h) =
-    let new = outcome.state in
-    IsTold said is (hosted_device old) (queue_of old.memory old.block (own_disk old))
-    (queue_of new.memory new.block says.disk) says.does.queue refl
-    (ap (λ (s : SlotState). tags_in s.host) says.is)
-    (ap (λ (s : SlotState). s.on_hold) says.is ∙ ap (λ (disk : HostedDisk). disk.on_hold) says.does.is)
+    IsTold said is says.before.disk says.after.disk old.memory outcome.state.memory says.before.window says.after.window
+    says.does (disk_there Own old says.before says.there) (ap (λ (s : SlotState). s.host) says.is)
 
 own_steps : {A : Type 0} (what : EventKind A) (old : SlotState) (before after : Health) (outcome : Outcome A)
     → MayGive old what before after outcome → StepsTo Own what old outcome.state
 own_steps what old before after outcome h =
     by_disk old.host old what before after outcome
     (λ given. let kept = given_fixed old what before after outcome given in
-    own_passes what old outcome.state kept.host kept.on_hold)
+    own_passes what old outcome.state kept.host kept.kept)
     (λ image ways. own_way what old before outcome ways) h
 
 -- ---- what stands behind the window of a further device
 
-abbrev pub flights_in : ModelState → List (Option InFlight)
-flights_in model = option_map_or (λ (disk : HostedDisk). disk.tags) (disk_of model) []
+-- the disk of a device that is there
+disk_of_device : (n : ℕ) (state : SlotState) (d : DeviceState) → slice_get state.devices n ≡ Some d
+    → disk_for (Further n) state ≡ disk_of d.model
+disk_of_device n state d there =
+    ap (λ (found : Option DeviceState). option_and_then (λ (e : DeviceState). disk_of e.model) found) there
 
-abbrev pub holds_in : ModelState → Bool
-holds_in model = option_map_or (λ (disk : HostedDisk). disk.on_hold) (disk_of model) false
-
-unit_flights : (window : WindowState) (model : ModelState)
-    → option_map_or (λ (u : DiskUnit). u.disk.tags) (option_map (behind_window window) (disk_of model)) []
-    ≡ flights_in model
-unit_flights window (Block disk) = refl
-unit_flights window _ = refl
-
-unit_holds : (window : WindowState) (model : ModelState)
-    → option_map_or (λ (u : DiskUnit). u.disk.on_hold) (option_map (behind_window window) (disk_of model)) false
-    ≡ holds_in model
-unit_holds window (Block disk) = refl
-unit_holds window _ = refl
-
-flights_at : (n : ℕ) (state : SlotState) (d : DeviceState) → slice_get state.devices n ≡ Some d
-    → in_flight_of (Further n) state ≡ flights_in d.model
-flights_at n state d there =
-    ap (λ (found : Option DeviceState). option_map_or (λ (u : DiskUnit). u.disk.tags) (option_and_then unit_of found) [])
-    there ∙ unit_flights d.window d.model
-
-holds_at : (n : ℕ) (state : SlotState) (d : DeviceState) → slice_get state.devices n ≡ Some d
-    → on_hold_of (Further n) state ≡ holds_in d.model
-holds_at n state d there =
-    ap (λ (found : Option DeviceState).
-    option_map_or (λ (u : DiskUnit). u.disk.on_hold) (option_and_then unit_of found) false) there
-    ∙ unit_holds d.window d.model
-
--- It stays, its queue is looked at, or the host says this of it, as may be.
-pub data ModelSteps (May : HostEvent → Type 0) (one other : ModelState) : Type 0 where
-  Same : flights_in other ≡ flights_in one → holds_in other ≡ holds_in one → ModelSteps May one other
-  Looked :
-      (device : BlockDevice) (q q' : HostedQueue) → LooksUnless (holds_in one) device q q'
-      → q.tags ≡ flights_in one → flights_in other ≡ q'.tags → holds_in other ≡ holds_in one
-      → ModelSteps May one other
-  Word :
-      (said : HostEvent) → May said → (device : BlockDevice) (q q' : HostedQueue)
-      → QueueTold said device (holds_in one) q q' → q.tags ≡ flights_in one → flights_in other ≡ q'.tags
-      → holds_in other ≡ held_by said (holds_in one) → ModelSteps May one other
+-- it stays, its queue is looked at, or the host says this of it, as may be
+abbrev pub ModelSteps : (HostEvent → Type 0) → ModelState → ModelState → Type 0
+ModelSteps May one other = DiskSteps May ⊥ (disk_of one) (disk_of other)
 
 module _ (May : HostEvent → Type 0) where
   pub same_model : (one other : ModelState) → other ≡ one → ModelSteps May one other
-  same_model one other is = Same (ap flights_in is) (ap holds_in is)
-
-  -- of another type than a disk nothing is in flight
-  pub no_disk : (one other : ModelState) → flights_in one ≡ [] → holds_in one ≡ false → flights_in other ≡ []
-      → holds_in other ≡ false → ModelSteps May one other
-  no_disk one other tags holds tags' holds' = Same (tags' ∙ sym tags) (holds' ∙ sym holds)
+  same_model one other is = Stays (ap disk_of is)
 
   pub disk_serves : (disk : HostedDisk) (q : ℕ) (m m' : Memory) (w w' : WindowState) (after : HostedDisk)
       → ServesDisk disk q m m' w w' after → (other : ModelState) → other ≡ Block after
       → ModelSteps May (Block disk) other
-  disk_serves disk zero m m' w w' after h other is =
-      Looked disk.device (queue_of m w disk) (queue_of m' w' after) h.looks refl (ap flights_in is)
-      (ap holds_in is ∙ ap (λ (d : HostedDisk). d.on_hold) h.is)
+  disk_serves disk zero m m' w w' after h other is = IsLooked disk after m m' w w' h refl (ap disk_of is)
   disk_serves disk (suc q) m m' w w' after h other is =
       same_model (Block disk) other (is ∙ ap Block h.state)
 
   serves_steps : (model : ModelState) (q : ℕ) (m m' : Memory) (w w' : WindowState) (other : ModelState)
       → Serves model q m m' w w' other → ModelSteps May model other
-  serves_steps (Entropy pool) zero m m' w w' other h =
-      no_disk (Entropy pool) other refl refl (ap flights_in h.is) (ap holds_in h.is)
+  serves_steps (Entropy pool) zero m m' w w' other h = Stays (ap disk_of h.is)
   serves_steps (Entropy pool) (suc q) m m' w w' other h = same_model (Entropy pool) other h.state
-  serves_steps (Network card) q m m' w w' other h =
-      no_disk (Network card) other refl refl (ap flights_in h.is) (ap holds_in h.is)
+  serves_steps (Network card) q m m' w w' other h = Stays (ap disk_of h.is)
   serves_steps (Block disk) q m m' w w' other h = disk_serves disk q m m' w w' h.after h.serves other h.is
   serves_steps (Image disk) q m m' w w' other h = same_model (Image disk) other h.state
-  serves_steps (Console terminal) q m m' w w' other h =
-      no_disk (Console terminal) other refl refl (ap flights_in h.is) (ap holds_in h.is)
+  serves_steps (Console terminal) q m m' w w' other h = Stays (ap disk_of h.is)
 
   -- a change that leaves disks alone, and then that
-  changed_steps : (one changed other : ModelState) → flights_in changed ≡ flights_in one
-      → holds_in changed ≡ holds_in one → ModelSteps May changed other → ModelSteps May one other
-  changed_steps one changed other tags holds (Same tags' holds') = Same (tags' ∙ tags) (holds' ∙ holds)
-  changed_steps one changed other tags holds (Looked device q q' looks from to on_hold) =
-      Looked device q q' (subst (λ (b : Bool). LooksUnless b device q q') holds looks) (from ∙ tags) to
-      (on_hold ∙ holds)
-  changed_steps one changed other tags holds (Word said may device q q' told from to on_hold) =
-      Word said may device q q' (subst (λ (b : Bool). QueueTold said device b q q') holds told) (from ∙ tags) to
-      (on_hold ∙ ap (held_by said) holds)
+  changed_steps : (one changed other : ModelState) → disk_of changed ≡ disk_of one → ModelSteps May changed other
+      → ModelSteps May one other
+  changed_steps one changed other same steps =
+      subst (λ (disk : Option HostedDisk). DiskSteps May ⊥ disk (disk_of other)) same steps
 
 -- what changes the other types leaves a disk
 abbrev pub LeavesDisks : (ModelState → ModelState) → Type 0
-LeavesDisks change = (model : ModelState)
-    → (flights_in (change model) ≡ flights_in model) × (holds_in (change model) ≡ holds_in model)
+LeavesDisks change = (model : ModelState) → disk_of (change model) ≡ disk_of model
 
 pub cards_leave : (change : Card → Card) → LeavesDisks (with_card change)
-cards_leave change (Network card) = (refl, refl)
-cards_leave change _ = (refl, refl)
+cards_leave change (Network card) = refl
+cards_leave change _ = refl
 
 terminals_leave : (change : Terminal → Terminal) → LeavesDisks (with_terminal change)
-terminals_leave change (Console terminal) = (refl, refl)
-terminals_leave change _ = (refl, refl)
+terminals_leave change (Console terminal) = refl
+terminals_leave change _ = refl
 
 pub sent_leaves : LeavesDisks without_sent
-sent_leaves (Network card) = (refl, refl)
-sent_leaves (Console terminal) = (refl, refl)
-sent_leaves _ = (refl, refl)
+sent_leaves (Network card) = refl
+sent_leaves (Console terminal) = refl
+sent_leaves _ = refl
 
 pub supplied_leaves : (bytes : List ℕ) → LeavesDisks (λ model. supplied_model model bytes)
-supplied_leaves bytes (Entropy pool) = (refl, refl)
-supplied_leaves bytes (Console terminal) = (refl, refl)
-supplied_leaves bytes _ = (refl, refl)
+supplied_leaves bytes (Entropy pool) = refl
+supplied_leaves bytes (Console terminal) = refl
+supplied_leaves bytes _ = refl
 
 configured_leaves : (offset value : ℕ) → LeavesDisks (configured offset value)
-configured_leaves offset value (Console terminal) = (refl, refl)
-configured_leaves offset value _ = (refl, refl)
+configured_leaves offset value (Console terminal) = refl
+configured_leaves offset value _ = refl
 
 -- ---- a further device
 
@@ -306,7 +245,7 @@ module _ {A : Type 0} (k : ℕ) (what : DeviceEvent A) (n : ℕ) (d : DeviceStat
 -- what its driver writes changes it so, and then a queue that is notified is served
 pub taking_leaves : (action : Action) → LeavesDisks (taking action)
 taking_leaves (ConfigWrite offset width value) model = configured_leaves offset value model
-taking_leaves _ model = (refl, refl)
+taking_leaves _ model = refl
 
 notified_steps : (May : HostEvent → Type 0) (q : Option ℕ) (m m' : Memory) (d d' : DeviceState)
     → ServesNotified q m m' d d' → ModelSteps May d.model d'.model
@@ -317,8 +256,7 @@ written_steps : (May : HostEvent → Type 0) (offset width value : ℕ) (m m' : 
     → Writes offset width value m m' d d' → ModelSteps May d.model d'.model
 written_steps May offset width value m m' d d' h =
     let action = action_of offset width value d.window in
-    let left = taking_leaves action d.model in
-    changed_steps May d.model (taking action d.model) d'.model left.0 left.1
+    changed_steps May d.model (taking action d.model) d'.model (taking_leaves action d.model)
     (notified_steps May (notified_by action) m m' (device_written offset width value m d) d' h)
 
 -- the host changes it so, and then its queue is served
@@ -326,26 +264,23 @@ after_steps : (May : HostEvent → Type 0) (change : ModelState → ModelState) 
     (d d' : DeviceState) → LeavesDisks change → ServesDevice q m m' (with_model change d) d'
     → ModelSteps May d.model d'.model
 after_steps May change q m m' d d' leaves h =
-    changed_steps May d.model (change d.model) d'.model (leaves d.model).0 (leaves d.model).1
+    changed_steps May d.model (change d.model) d'.model (leaves d.model)
     (serves_steps May (change d.model) q m m' d.window d'.window d'.model h)
 
 told_steps : (May : HostEvent → Type 0) (said : HostEvent) (m m' : Memory) (d d' : DeviceState) → May said
     → Told said m m' d d' → ModelSteps May d.model d'.model
 told_steps May said m m' d d' may told =
-    subst (λ (model : ModelState). ModelSteps May model d'.model) (sym told.there)
-    (Word said may told.before.device (queue_of m d.window told.before) (queue_of m' d'.window told.after)
-    told.does.queue refl (ap flights_in told.is)
-    (ap holds_in told.is ∙ ap (λ (disk : HostedDisk). disk.on_hold) told.does.is))
+    IsTold said may told.before told.after m m' d.window d'.window told.does (ap disk_of told.there) (ap disk_of told.is)
 
 does_left : {A : Type 0} (k n : ℕ) (what : DeviceEvent A) (d : DeviceState) (m m' : Memory)
     (old new : List DeviceState) → slice_get old n ≡ Some d → DoesTo what k m m' old new → Left k what n d new
 does_left k n (Plug spec) d m m' old new there h = appended k (Plug spec) n d old new _ there h.devices
 does_left k n (SetLink up) d m m' old new there h =
     changed_left k (SetLink up) n d (linked up) old new there h.devices (λ e.
-    let left = cards_leave (with_link up) e.model in Same left.0 left.1)
+    Stays (cards_leave (with_link up) e.model))
 does_left k n (Resize cols rows) d m m' old new there h =
     changed_left k (Resize cols rows) n d (resized cols rows) old new there h.devices (λ e.
-    let left = terminals_leave (with_size cols rows) e.model in Same left.0 left.1)
+    Stays (terminals_leave (with_size cols rows) e.model))
 does_left {A} k n (Receive frame) d m m' old new there h =
     if_left k (Receive frame) n d _ (Receives frame) m m' old new there h (λ e e' same received.
     after_steps _ (with_card (with_frame frame)) 0 m m' e e' (cards_leave (with_frame frame)) received)
@@ -382,47 +317,32 @@ said_here k n what said same told =
 pub model_steps : {A : Type 0} (k n : ℕ) (what : DeviceEvent A) (old new : SlotState) (d : DeviceState)
     → slice_get old.devices n ≡ Some d → Left k what n d new.devices
     → StepsTo (Further n) (event.Device k what) old new
-model_steps {A} k n what old new d there left =
-    by_steps left.steps
+model_steps {A} k n what old new d there left = by_steps left.steps
   where
-    tags : in_flight_of (Further n) old ≡ flights_in d.model
-    tags = flights_at n old d there
+    was : disk_for (Further n) old ≡ disk_of d.model
+    was = disk_of_device n old d there
 
-    tags' : in_flight_of (Further n) new ≡ flights_in left.after.model
-    tags' = flights_at n new left.after left.there
-
-    holds : on_hold_of (Further n) old ≡ holds_in d.model
-    holds = holds_at n old d there
-
-    holds' : on_hold_of (Further n) new ≡ holds_in left.after.model
-    holds' = holds_at n new left.after left.there
+    is : disk_for (Further n) new ≡ disk_of left.after.model
+    is = disk_of_device n new left.after left.there
 
     by_steps : ModelSteps (λ said. (k ≡ n) × (said_there what ≡ Some said)) d.model left.after.model
         → StepsTo (Further n) (event.Device k what) old new
-    by_steps (Same kept on_hold) = Stays (tags' ∙ (kept ∙ sym tags)) (holds' ∙ (on_hold ∙ sym holds))
-    by_steps (Looked device q q' looks from to on_hold) =
-        IsLooked device q q' (subst (λ (b : Bool). LooksUnless b device q q') (sym holds) looks) (from ∙ sym tags)
-        (tags' ∙ to) (holds' ∙ (on_hold ∙ sym holds))
-    by_steps (Word said may device q q' told from to on_hold) =
-        IsTold said (said_here k n what said may.0 may.1) device q q'
-        (subst (λ (b : Bool). QueueTold said device b q q') (sym holds) told) (from ∙ sym tags) (tags' ∙ to)
-        (holds' ∙ (on_hold ∙ ap (held_by said) (sym holds)))
+    by_steps (Stays kept) = Stays (is ∙ (kept ∙ sym was))
+    by_steps (Retakes never kept) = absurd never
+    by_steps (Comes none) = Comes (was ∙ none)
+    by_steps (IsLooked disk after m m' w w' looks from to) =
+        IsLooked disk after m m' w w' looks (was ∙ from) (is ∙ to)
+    by_steps (IsTold said may disk after m m' w w' told from to) =
+        IsTold said (said_here k n what said may.0 may.1) disk after m m' w w' told (was ∙ from) (is ∙ to)
 
 pub further_stays : {A : Type 0} (n : ℕ) (what : EventKind A) (old new : SlotState) → new.devices ≡ old.devices
     → StepsTo (Further n) what old new
-further_stays n what old new is =
-    let found : Option DeviceState → Option DiskUnit = option_and_then unit_of in
-    Stays
-    (ap (λ (l : List DeviceState). option_map_or (λ (u : DiskUnit). u.disk.tags) (found (slice_get l n)) []) is)
-    (ap (λ (l : List DeviceState). option_map_or (λ (u : DiskUnit). u.disk.on_hold) (found (slice_get l n)) false) is)
+further_stays n what old new is = Stays (ap (disk_at n) is)
 
 pub comes : {A : Type 0} (n : ℕ) (what : EventKind A) (old new : SlotState) → slice_get old.devices n ≡ None
     → StepsTo (Further n) what old new
 comes n what old new none =
-    Comes
-    (ap (λ (f : Option DeviceState). option_map_or (λ (u : DiskUnit). u.disk.tags) (option_and_then unit_of f) []) none)
-    (ap (λ (f : Option DeviceState). option_map_or (λ (u : DiskUnit). u.disk.on_hold) (option_and_then unit_of f)
-    false) none)
+    Comes (ap (λ (f : Option DeviceState). option_and_then (λ (e : DeviceState). disk_of e.model) f) none)
 
 image_steps : {A : Type 0} (n k : ℕ) (what : DeviceEvent A) (old new : SlotState) (d : DeviceState) (disk : BlockDevice)
     → slice_get old.devices n ≡ Some d → IsLeftBy k old.devices new.devices disk
@@ -524,26 +444,25 @@ restored_on m (suc k) n model saved devices new stands is =
     by_saved again None is = absurd (cc is)
     by_saved again (Some of_device) is = by_device again of_device (slice_get devices k) is
 
-taken_up : {A : Type 0} (n : ℕ) (old new : SlotState) (bytes : List ℕ) (found : Option DeviceState)
+taken_up : (A : Type 0) (n : ℕ) (old new : SlotState) (bytes : List ℕ) (found : Option DeviceState)
     → slice_get old.devices n ≡ found → IsTakenUp old bytes new
     → StepsTo {A = A} (Further n) (event.Restore bytes) old new
-taken_up n old new bytes None none h = comes n (event.Restore bytes) old new none
-taken_up n old new bytes (Some d) there h =
+taken_up A n old new bytes None none h = comes {A = A} n (event.Restore bytes) old new none
+taken_up A n old new bytes (Some d) there h =
     let saved = h.restored.saved.devices.items in
     let stands = restored_on old.memory (length saved) n d.model saved old.devices new.devices
     (record { device = d; there = there; on = refl }) h.restored.takes_up.devices in
     Stays
-    (flights_at n new stands.device stands.there ∙ (ap flights_in stands.on ∙ sym (flights_at n old d there)))
-    (holds_at n new stands.device stands.there ∙ (ap holds_in stands.on ∙ sym (holds_at n old d there)))
+    (disk_of_device n new stands.device stands.there ∙ (ap disk_of stands.on ∙ sym (disk_of_device n old d there)))
 
 restore_steps : {A : Type 0} (works : Bool) (n : ℕ) (bytes : List ℕ) (old : SlotState) (outcome : Outcome A)
     → RestoresUnless works old bytes outcome → StepsTo {A = A} (Further n) (event.Restore bytes) old outcome.state
 restore_steps {A} true n bytes old outcome h =
-    further_stays n (event.Restore bytes) old outcome.state (ap (λ (o : Outcome A). o.state.devices) h)
-restore_steps false n bytes old outcome (inl h) =
-    taken_up n old outcome.state bytes (slice_get old.devices n) refl h.0
+    further_stays {A = A} n (event.Restore bytes) old outcome.state (ap (λ (o : Outcome A). o.state.devices) h)
+restore_steps {A} false n bytes old outcome (inl h) =
+    taken_up A n old outcome.state bytes (slice_get old.devices n) refl h.0
 restore_steps {A} false n bytes old outcome (inr h) =
-    further_stays n (event.Restore bytes) old outcome.state (ap (λ (o : Outcome A). o.state.devices) h.1)
+    further_stays {A = A} n (event.Restore bytes) old outcome.state (ap (λ (o : Outcome A). o.state.devices) h.1)
 
 restore_over : {A : Type 0} (n : ℕ) (bytes : List ℕ) (old : SlotState) (before after : Health) (outcome : Outcome A)
     → MayGiveOverImage old (event.Restore bytes) before after outcome
@@ -576,7 +495,7 @@ restore_way : {A : Type 0} (n : ℕ) (bytes : List ℕ) (old : SlotState) (befor
     → Way (λ (o : Outcome A). MayGiveOverImage old (event.Restore bytes) before before o) old (event.Restore bytes)
     outcome → StepsTo {A = A} (Further n) (event.Restore bytes) old outcome.state
 restore_way {A} n bytes old before outcome (Waits waits h) =
-    further_stays n (event.Restore bytes) old outcome.state (ap (λ (o : Outcome A). o.state.devices) h)
+    further_stays {A = A} n (event.Restore bytes) old outcome.state (ap (λ (o : Outcome A). o.state.devices) h)
 restore_way n bytes old before outcome (Passes own free quiet h) = restore_over n bytes old before before outcome h
 restore_way n bytes old before outcome (Looks rings looks h) = absurd (cc rings)
 restore_way n bytes old before outcome (Rests said is h) = absurd (cc is)

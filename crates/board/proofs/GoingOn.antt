@@ -2,6 +2,8 @@
 use Rattle.std.proofs.Common.{◌≡◌, ◌∙◌, inl, inr, ℕ, Bool, true, false, List, [], ◌∷◌, ◌++◌, map, Option, Some, None, refl, sym, ap, subst}
 use Rattle.std.specs.Prelude.{drop, take, false, true}
 use Rattle.std.specs.List.{slice_get}
+use Rattle.std.specs.Option.{option_map}
+use Rattle.std.proofs.lemmas.Option.{same_Some}
 use Rattle.std.proofs.Math.Seq.{take-append_seam}
 use Rattle.device_list.specs.Saved.{AreOfModels}
 use Rattle.snapshot.specs.declared.saved.SavedSlot.{SavedSlot}
@@ -11,7 +13,8 @@ use Rattle.board.specs.declared.event.EventKind.{EventKind}
 use Rattle.board.specs.declared.event.EventKind.TheVariants.{Restore}
 use Rattle.board.specs.declared.reply.Record.{Record}
 use Rattle.board.specs.declared.reply.Reply.TheVariants.{Done}
-use Rattle.board.specs.Backing.{HostDisk}
+use Rattle.hosted_disk.specs.Disk.{HostedDisk}
+use Rattle.board.specs.Backing.{KeepsHost, held_disk, is_held}
 use Rattle.board.specs.Hosting.{OwnGives, waits_now}
 use Rattle.board.specs.Image.{Health}
 use Rattle.board.specs.Line.{IsLine, IsQuiet, Move, events_of, own_events, own_records, records_of}
@@ -53,7 +56,7 @@ done_beside false state bytes health outcome gives done =
 done_beside {A} true state bytes health outcome gives done =
     let told = ap (λ (o : Outcome A). o.reply) gives in absurd (cc)
 
-done_by : {A : Type 0} (host : Option HostDisk) (state : SlotState) (bytes : List ℕ) (before after : Health)
+done_by : {A : Type 0} (host : Option HostedDisk) (state : SlotState) (bytes : List ℕ) (before after : Health)
     (outcome : Outcome A) → MayGiveBy host state (Restore bytes) before after outcome → outcome.reply ≡ Done
     → IsTakenUp state bytes outcome.state
 done_by None state bytes before after outcome given done =
@@ -74,6 +77,14 @@ like_saved saved other suits memory devices = record {
   devices = like_models saved.devices other.devices devices;
   on_hold = suits.on_hold;
 }
+
+-- the disk on hold as the saved one was
+host_back : (saved host : Option HostedDisk) → KeepsHost saved host → option_map (held_disk (is_held saved)) host ≡ saved
+host_back None None is = refl
+host_back (Some disk) None is = absurd (cc is)
+host_back None (Some disk) is = absurd (cc is)
+host_back (Some disk) (Some other) is =
+    ap (λ (d : HostedDisk). Some (held_disk disk.on_hold d)) (same_Some (held_disk false other) (held_disk false disk) is)
 
 -- what a guest sees of a slot whose disk has these bytes
 abbrev seen_in : List ℕ → List ℕ → BoardSlot → SlotState
@@ -99,7 +110,7 @@ as_left saved bytes state new has text taken =
       has.extent,
       has.spare,
       has.spare_bytes,
-      has.host,
+      host_back saved.host state.host has.host,
       windows_back saved.devices state.devices has.devices,
     ) refl
 

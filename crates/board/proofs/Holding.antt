@@ -1,58 +1,61 @@
--- A drop, a hold and a release.
+-- A drop and a hold.
 use Rattle.std.proofs.Common.{◌≡◌, ◌≢◌, ◌∙◌, inl, inr, ℕ, zero, suc, Bool, true, false, Option, Some, None, List, [], ◌∷◌, refl, sym, ap, subst}
-use Rattle.std.specs.Prelude.{IfSome, IsSome, ◌&&◌, ◌||◌, get_or}
+use Rattle.std.specs.Prelude.{IfSome, ◌&&◌, ◌||◌, get_or}
+use Rattle.std.specs.Option.{option_map, option_map_or}
 use Rattle.std.proofs.lemmas.Bool.{cases_eq}
-use Rattle.guest_memory.specs.Memory.{Memory}
-use Rattle.mmio_window.specs.Window.{WindowState}
-use Rattle.board.specs.declared.event.SlotWindow.TheVariants.{Block}
+use Rattle.std.proofs.lemmas.Option.{same_Some}
 use Rattle.block_device.specs.declared.device.BlockDevice.{BlockDevice}
 use Rattle.block_device.specs.declared.operation.HostEvent.{HostEvent}
 use Rattle.block_device.specs.declared.operation.Verdict.{Verdict}
 use Rattle.block_device.specs.Flights.{HostedQueue, InFlight, IsLanding, given_up}
 use Rattle.block_device.specs.Tags.{freed, is_any}
-use Rattle.hosted_disk.specs.Disk as looking
 use Rattle.hosted_disk.specs.Disk.{HostedDisk, LooksUnless, queue_of}
-use Rattle.hosted_disk.specs.Told.{DoesAsTold, QueueTold, held_by}
+use Rattle.hosted_disk.specs.Told.{DoesAsTold, QueueTold, has_effect, held_by}
 use Rattle.block_device.proofs.Landing.{landed_free, landed_others}
 use Rattle.board.specs.declared.event.EventKind.{EventKind}
-use Rattle.board.specs.declared.event.EventKind.TheVariants.{Write, Host, Device}
+use Rattle.board.specs.declared.event.EventKind.TheVariants.{Host, Device}
 use Rattle.board.specs.declared.event.DeviceEvent.TheVariants as device
 use Rattle.device_list.specs.List.{disk_at}
 use Rattle.board.specs.Waiting.{waits_beside}
 use Rattle.board.proofs.FurtherDevices.{dropped_disk, freed_none}
 use Rattle.block_device.specs.declared.operation.HostEvent.TheVariants.{Complete, Drop, Hold, Release}
 use Rattle.board.specs.declared.reply.Reply.TheVariants.{Busy}
-use Rattle.board.specs.Backing.{HostDisk, sectors_by, tags_in, with_tags}
-use Rattle.board.specs.HostedDisks.{SlotDisk, in_flight_of, on_hold_of, said_of}
-use Rattle.board.specs.Hosting.{DoesAsHostSays, DoesToOwn, IsNoRestore, LooksAtQueue, ToldGives, dropped, hosted_queue, must_wait, notifies_block, own_disk, waits_now, with_own, with_queue}
-use Rattle.board.specs.Image.{Health, sectors_of}
-use Rattle.board.specs.Machine.{GivesBy, IsNext, at_rest, readied}
+use Rattle.board.specs.Backing.{is_held, tags_in}
+use Rattle.board.specs.HostedDisks.{said_of}
+use Rattle.board.specs.Units.{DiskUnit, DoesAsSaid, Own, SlotDisk, disk_for, in_flight_of, on_hold_of}
+use Rattle.board.specs.Hosting.{IsNoRestore, ToldGives, dropped, must_wait, with_queue}
+use Rattle.board.specs.Image.{Health}
 use Rattle.board.specs.Outcome.{Outcome}
 use Rattle.board.specs.Slot.{SlotState}
 use Rattle.board.specs.World.{MayGive, MayGiveBy, MayGiveOverImage}
 use Rattle.board.proofs.DiskSteps.{Comes, IsLooked, IsTold, Retakes, Stays, StepsTo, steps}
-use Rattle.board.proofs.Hosts.{ringing_own}
-use Rattle.board.proofs.Identities.{given_fixed, readied_fixed}
-use Rattle.board.proofs.OneHosted.{look_once}
+use Rattle.board.proofs.Flights.{same_tags}
+use Rattle.board.proofs.Identities.{given_fixed}
 use Rattle.board.proofs.Waiting.{waited}
 use Rattle.board.proofs.Ways.{Looks, Passes, Rests, Says, Waits, Way, by_disk, must_by, told_says}
+use Rattle.board.proofs.Units.{behind_window}
 
 -- ---- a drop
+
+-- there is something to drop where anything is in flight
+drops_any : (host : Option HostedDisk) → option_map_or (has_effect Drop) host false ≡ is_any (tags_in host)
+drops_any None = refl
+drops_any (Some disk) = refl
 
 gives_free : {A : Type 0} (effect : Bool) (old : SlotState) (outcome : Outcome A) → is_any (tags_in old.host) ≡ effect
     → ToldGives effect Drop old outcome → is_any (tags_in outcome.state.host) ≡ false
 gives_free false old outcome is h = ap (λ o. is_any (tags_in o.state.host)) h ∙ is
 gives_free true old outcome is h =
     ap (λ (s : SlotState). is_any (tags_in s.host)) h.0.is
-    ∙ (ap (λ (q : HostedQueue). is_any q.tags) h.0.does.queue ∙ freed_none (tags_in old.host))
+    ∙ (ap (λ (q : HostedQueue). is_any q.tags) h.0.does.queue ∙ freed_none h.0.before.disk.tags)
 
-free_by : {A : Type 0} (host : Option HostDisk) (old : SlotState) (before after : Health) (outcome : Outcome A)
+free_by : {A : Type 0} (host : Option HostedDisk) (old : SlotState) (before after : Health) (outcome : Outcome A)
     → old.host ≡ host → MayGiveBy host old (Host Drop) before after outcome
     → is_any (tags_in outcome.state.host) ≡ false
 free_by None old before after outcome is h =
-    ap (λ (k : Option HostDisk). is_any (tags_in k)) ((given_fixed old (Host Drop) before after outcome h).host ∙ is)
+    ap (λ (k : Option HostedDisk). is_any (tags_in k)) ((given_fixed old (Host Drop) before after outcome h).kept tt ∙ is)
 free_by (Some disk) old before after outcome is h =
-    gives_free (is_any (tags_in old.host)) old outcome refl h.gives
+    gives_free (option_map_or (has_effect Drop) old.host false) old outcome (sym (drops_any old.host)) h.gives
 
 pub dropped_free : {A : Type 0} (old : SlotState) (before after : Health) (outcome : Outcome A)
     → MayGive old (Host Drop) before after outcome → is_any (tags_in outcome.state.host) ≡ false
@@ -72,40 +75,33 @@ dropped_passes old what before mid mid' after drop outcome h later busy =
     beside false must further free waits = waits
 
 -- what was in flight is given up
-put_back : (host : Option HostDisk) (disk : HostDisk) (n : ℕ) (tags : List (Option InFlight)) → host ≡ Some disk
-    → Some (record { sectors = sectors_by host n; tags = tags }) ≡ with_tags tags host
-put_back host disk n tags is = rw is refl
-
--- the slot with its own disk so, of whose queue this is said
-abbrev own_put : SlotState → HostedQueue → SlotState
-own_put old q = with_own q.memory q.window (record (own_disk old) { tags = q.tags }) old
-
-queue_put : (old : SlotState) (disk : HostDisk) (q : HostedQueue) → old.host ≡ Some disk
-    → own_put old q ≡ with_queue q old
-queue_put old disk q is =
-    ap (λ (k : Option HostDisk). record old { memory = q.memory; block = q.window; host = k })
-    (put_back old.host disk (sectors_of old.extent) q.tags is)
-
--- a disk that keeps its hold is put back with its queue
-put_so : (Does : HostedDisk → Memory → Memory → WindowState → WindowState → HostedDisk → Type 0) (old new : SlotState)
-    (h : DoesToOwn Does old new) → h.disk ≡ record (own_disk old) { tags = h.disk.tags }
-    → new ≡ own_put old (queue_of new.memory new.block h.disk)
-put_so Does old new h is = h.is ∙ ap (λ (d : HostedDisk). with_own new.memory new.block d old) is
-
-whole_by : (old new : SlotState) (disk : HostDisk) → old.host ≡ Some disk → DoesAsHostSays Drop old new
-    → new ≡ dropped old
+whole_by : (old new : SlotState) (disk : HostedDisk) → old.host ≡ Some disk → DoesAsSaid Own Drop old new → new ≡ dropped old
 whole_by old new disk is h =
-    put_so (DoesAsTold Drop) old new h h.does.is
-    ∙ (ap (own_put old) h.does.queue ∙ queue_put old disk (given_up (hosted_queue old)) is)
+    let put : HostedQueue → SlotState = λ (q : HostedQueue). record old {
+      memory = q.memory;
+      block = q.window;
+      host = Some (record disk { tags = q.tags });
+    } in
+    let back : Option HostedDisk → SlotState = λ (host : Option HostedDisk). with_queue
+    (given_up (record { memory = old.memory; window = old.block; tags = tags_in host })) (record old { host = host }) in
+    let same : h.before ≡ behind_window old.block disk =
+    same_Some h.before (behind_window old.block disk) (sym h.there ∙ ap (option_map (behind_window old.block)) is) in
+    let does : DoesAsTold Drop disk old.memory new.memory old.block h.after.window h.after.disk =
+    subst (λ (u : DiskUnit). DoesAsTold Drop u.disk old.memory new.memory u.window h.after.window h.after.disk) same
+    h.does in
+    h.is
+    ∙ (ap (λ (d : HostedDisk). record old { memory = new.memory; block = h.after.window; host = Some d }) does.is
+    ∙ (ap put does.queue ∙ ap back (sym is)))
 
-whole_at : {A : Type 0} (host : Option HostDisk) (old : SlotState) (before after : Health) (outcome : Outcome A)
+whole_at : {A : Type 0} (host : Option HostedDisk) (old : SlotState) (before after : Health) (outcome : Outcome A)
     → old.host ≡ host → is_any (tags_in old.host) ≡ true → MayGiveBy host old (Host Drop) before after outcome
     → outcome.state ≡ dropped old
 whole_at None old before after outcome is any h =
-    let none : is_any (tags_in old.host) ≡ false = ap (λ (k : Option HostDisk). is_any (tags_in k)) is in
+    let none : is_any (tags_in old.host) ≡ false = ap (λ (k : Option HostedDisk). is_any (tags_in k)) is in
     absurd (cc (any, none))
 whole_at (Some disk) old before after outcome is any h =
-    whole_by old outcome.state disk is (told_says (is_any (tags_in old.host)) Drop old outcome any h.gives)
+    whole_by old outcome.state disk is
+    (told_says (option_map_or (has_effect Drop) old.host false) Drop old outcome (drops_any old.host ∙ any) h.gives)
 
 pub dropped_whole : {A : Type 0} (old : SlotState) (before after : Health) (outcome : Outcome A)
     → is_any (tags_in old.host) ≡ true → MayGive old (Host Drop) before after outcome
@@ -177,22 +173,28 @@ word_holds found Release on_hold is other holds = absurd (other is)
 word_holds found _ on_hold is other holds = holds
 
 module _ {A : Type 0} (disk : SlotDisk) (old : SlotState) (what : EventKind A) where
+  abbrev tag_in : ℕ → Option HostedDisk → Option InFlight
+  tag_in tag host = get_or (tags_in host) tag None
+
   free_from : (tag : ℕ) (new : SlotState) → on_hold_of disk old ≡ true → said_of disk what ≢ Some Release
       → get_or (in_flight_of disk old) tag None ≡ None → StepsTo disk what old new
       → get_or (in_flight_of disk new) tag None ≡ None
-  free_from tag new on_hold other free (Stays tags still) = ap (λ l. get_or l tag None) tags ∙ free
-  free_from tag new on_hold other free (Retakes restores tags) = ap (λ l. get_or l tag None) tags ∙ free
-  free_from tag new on_hold other free (Comes none never) =
-      let clash : false ≡ true = sym never ∙ on_hold in absurd (cc clash)
-  free_from tag new on_hold other free (IsLooked device q q' looks from to still) =
-      let same : q' ≡ q = subst (λ (b : Bool). LooksUnless b device q q') on_hold looks in
-      ap (λ l. get_or l tag None) to
-      ∙ (ap (λ (l : HostedQueue). TagIn l tag) same ∙ (ap (λ l. get_or l tag None) from ∙ free))
-  free_from tag new on_hold other free (IsTold said is device q q' told from to still) =
-      ap (λ l. get_or l tag None) to
-      ∙ word_free (said_of disk what) said tag device q q' is other
-      (subst (λ (b : Bool). QueueTold said device b q q') on_hold told)
-      (ap (λ l. get_or l tag None) from ∙ free)
+  free_from tag new on_hold other free (Stays same) = ap (tag_in tag) same ∙ free
+  free_from tag new on_hold other free (Retakes restores kept) =
+      ap (λ l. get_or l tag None) (same_tags (disk_for disk old) (disk_for disk new) kept) ∙ free
+  free_from tag new on_hold other free (Comes none) =
+      let clash : false ≡ true = sym (ap is_held none) ∙ on_hold in absurd (cc clash)
+  free_from tag new on_hold other free (IsLooked d after m m' w w' looks from to) =
+      let same : queue_of m' w' after ≡ queue_of m w d =
+      subst (λ (b : Bool). LooksUnless b d.device (queue_of m w d) (queue_of m' w' after)) (sym (ap is_held from) ∙ on_hold)
+      looks.looks in
+      ap (tag_in tag) to ∙ (ap (λ (l : HostedQueue). TagIn l tag) same ∙ (sym (ap (tag_in tag) from) ∙ free))
+  free_from tag new on_hold other free (IsTold said is d after m m' w w' told from to) =
+      ap (tag_in tag) to
+      ∙ word_free (said_of disk what) said tag d.device (queue_of m w d) (queue_of m' w' after) is other
+      (subst (λ (b : Bool). QueueTold said d.device b (queue_of m w d) (queue_of m' w' after))
+      (sym (ap is_held from) ∙ on_hold) told.queue)
+      (sym (ap (tag_in tag) from) ∙ free)
 
   pub hold_free : (tag : ℕ) (before after : Health) (outcome : Outcome A) → on_hold_of disk old ≡ true
       → said_of disk what ≢ Some Release → get_or (in_flight_of disk old) tag None ≡ None
@@ -204,92 +206,19 @@ module _ {A : Type 0} (disk : SlotDisk) (old : SlotState) (what : EventKind A) w
 
   stays_by : (new : SlotState) → on_hold_of disk old ≡ true → said_of disk what ≢ Some Release → IsNoRestore what
       → StepsTo disk what old new → on_hold_of disk new ≡ true
-  stays_by new on_hold other keeps (Stays tags still) = still ∙ on_hold
-  stays_by new on_hold other keeps (Retakes restores tags) = absurd (restores keeps)
-  stays_by new on_hold other keeps (Comes none never) =
-      let clash : false ≡ true = sym never ∙ on_hold in absurd (cc clash)
-  stays_by new on_hold other keeps (IsLooked device q q' looks from to still) = still ∙ on_hold
-  stays_by new on_hold other keeps (IsTold said is device q q' told from to still) =
-      still ∙ word_holds (said_of disk what) said (on_hold_of disk old) is other on_hold
+  stays_by new on_hold other keeps (Stays same) = ap is_held same ∙ on_hold
+  stays_by new on_hold other keeps (Retakes restores kept) = absurd (restores keeps)
+  stays_by new on_hold other keeps (Comes none) =
+      let clash : false ≡ true = sym (ap is_held none) ∙ on_hold in absurd (cc clash)
+  stays_by new on_hold other keeps (IsLooked d after m m' w w' looks from to) =
+      ap is_held to ∙ (ap (λ (k : HostedDisk). k.on_hold) looks.is ∙ (sym (ap is_held from) ∙ on_hold))
+  stays_by new on_hold other keeps (IsTold said is d after m m' w w' told from to) =
+      ap is_held to
+      ∙ (ap (λ (k : HostedDisk). k.on_hold) told.is
+      ∙ word_holds (said_of disk what) said d.on_hold is other (sym (ap is_held from) ∙ on_hold))
 
   pub hold_stays : (before after : Health) (outcome : Outcome A) → on_hold_of disk old ≡ true
       → said_of disk what ≢ Some Release → IsNoRestore what → MayGive old what before after outcome
       → on_hold_of disk outcome.state ≡ true
   hold_stays before after outcome on_hold other keeps h =
       stays_by outcome.state on_hold other keeps (steps disk what old before after outcome h)
-
--- ---- a release
-
--- a notification is looked at
-looks_next : {A : Type 0} (host : Option HostDisk) (old : SlotState) (what : EventKind A) (before after : Health)
-    (outcome : Outcome A) → IsSome host → notifies_block what old ≡ true → waits_now what old.host ≡ false
-    → GivesBy host old what before after outcome → LooksAtQueue (readied what old) outcome.state
-looks_next None old what before after outcome hosted rings free h = absurd (cc)
-looks_next (Some disk) old what before after outcome hosted rings free h =
-    let own = ringing_own what old rings in
-    (rw (own, free, rings) at h.gives).0
-
--- the slot on hold, and off it
-abbrev held : SlotState → SlotState
-held state = record state { on_hold = true }
-
-abbrev released : SlotState → SlotState
-released state = record state { on_hold = false }
-
-looks_released : (old new : SlotState) → DoesAsHostSays Release old new → LooksAtQueue (released old) new
-looks_released old new h =
-    record { disk = h.disk; does = record { looks = h.does.queue; is = h.does.is }; is = h.is }
-
-release_next : {A : Type 0} (host : Option HostDisk) (old : SlotState) (before after : Health) (outcome : Outcome A)
-    → IsSome host → old.on_hold ≡ true → GivesBy host old (Host Release) before after outcome
-    → LooksAtQueue (released old) outcome.state
-release_next None old before after outcome hosted on_hold h = absurd (cc)
-release_next (Some disk) old before after outcome hosted on_hold h =
-    looks_released old outcome.state (told_says old.on_hold Release old outcome on_hold h.gives)
-
--- whether a slot is on hold says nothing of what a write does to its registers
-rings_on : {A : Type 0} (b : Bool) (what : EventKind A) (old : SlotState)
-    → notifies_block what (record old { on_hold = b }) ≡ notifies_block what old
-rings_on b (Write Block offset width value) old = refl
-rings_on b _ old = refl
-
-readied_on : {A : Type 0} (what : EventKind A) (old : SlotState)
-    → released (readied what (held old)) ≡ readied what (released old)
-readied_on (Write Block offset width value) old = refl
-readied_on _ old = refl
-
--- and the slot
-own_back : (host : Option HostDisk) (n : ℕ) → IsSome host
-    → Some (record { sectors = sectors_by host n; tags = tags_in host }) ≡ host
-own_back None n some = absurd (cc some)
-own_back (Some disk) n some = refl
-
-unlooked_same : (old new : SlotState) → old.on_hold ≡ true → IsSome old.host → LooksAtQueue old new → new ≡ old
-unlooked_same old new on_hold hosted h =
-    let same : queue_of new.memory new.block h.disk ≡ hosted_queue old = rw on_hold at h.does.looks in
-    put_so looking.LooksAtQueue old new h h.does.is
-    ∙ (ap (own_put old) same
-    ∙ ap (λ (k : Option HostDisk). record old { host = k }) (own_back old.host (sectors_of old.extent) hosted))
-
-pub makes_up : {A : Type 0} (old : SlotState) (what : EventKind A) (wait late prompt : Outcome A) → IsSome old.host
-    → notifies_block what old ≡ true → waits_now what old.host ≡ false → IsNext (held old) what wait
-    → IsNext wait.state (Host Release) late → IsNext (released old) what prompt → late.state ≡ prompt.state
-makes_up {A} old what wait late prompt hosted rings free w l p =
-    let ready = readied what (held old) in
-    let ringing : notifies_block what (held old) ≡ true = rings_on true what old ∙ rings in
-    let stands : wait.state ≡ ready =
-    unlooked_same ready wait.state ((readied_fixed what (held old) ringing).on_hold tt)
-    (subst (λ (k : Option HostDisk). IsSome k) (sym (readied_fixed what (held old) ringing).host) hosted)
-    (looks_next old.host (held old) what at_rest w.after wait hosted ringing free w.gives) in
-    let host : wait.state.host ≡ old.host =
-    ap (λ (s : SlotState). s.host) stands ∙ (readied_fixed what (held old) ringing).host in
-    let looks : LooksAtQueue (released wait.state) late.state =
-    release_next wait.state.host wait.state at_rest l.after late
-    (subst (λ (k : Option HostDisk). IsSome k) (sym host) hosted)
-    (ap (λ (s : SlotState). s.on_hold) stands ∙ (readied_fixed what (held old) ringing).on_hold tt) l.gives in
-    let prompted : LooksAtQueue (readied what (released old)) prompt.state =
-    looks_next old.host (released old) what at_rest p.after prompt hosted (rings_on false what old ∙ rings) free
-    p.gives in
-    look_once (readied what (released old)) late.state prompt.state
-    (subst (λ (s : SlotState). LooksAtQueue s late.state)
-    (ap released stands ∙ readied_on what old) looks) prompted

@@ -25,12 +25,13 @@ use Rattle.block_device.proofs.Unasked.{any_disk, honest_host_serves}
 use Rattle.board.specs.declared.event.EventKind.{EventKind}
 use Rattle.board.specs.declared.reply.Record.{Record}
 use Rattle.board.specs.Honest.{IsFlown, IsHonestlyServed}
-use Rattle.board.specs.HostedDisks.{LeavesTagOf, SlotDisk, in_flight_of, unit_queue}
+use Rattle.board.specs.HostedDisks.{LeavesTagOf}
+use Rattle.board.specs.Units.{SlotDisk, in_flight_of, unit_queue}
 use Rattle.board.specs.Line.{MayBeTold}
 use Rattle.board.specs.Slot.{SlotState}
 use Rattle.board.specs.Steps.{IsAnsweredBy}
 use Rattle.hosted_disk.proofs.Looking.{KeepsTag, from_left, keeps_tag}
-use Rattle.board.proofs.HostedDisks.{unit_tags}
+use Rattle.board.proofs.Units.{unit_tags}
 use Rattle.board.proofs.Waiting.{outlasts}
 
 -- ---- the chain as it asked

@@ -1,13 +1,10 @@
 -- What becomes of a disk that the host serves in an event of its slot, whether it is the slot's own or a further one.
-use Rattle.std.proofs.Common.{◌≡◌, inl, inr, ℕ, Bool, true, false, Option, Some, None, List, [], get_or, refl, sym, ◌∙◌, ap, subst}
+use Rattle.std.proofs.Common.{◌≡◌, inl, inr, ℕ, Bool, true, false, Option, Some, None, List, refl, sym, ◌∙◌, ap, subst}
 use Rattle.std.specs.Prelude.{if◌then◌else◌, slice_set, unwrap_or}
-use Rattle.std.specs.List.{slice_get}
 use Rattle.std.specs.Option.{option_and_then, option_map, option_map_or}
 use Rattle.std.proofs.lemmas.Bool.Decides.{eqb_tells}
 use Rattle.std.proofs.lemmas.Option.{same_Some}
-use Rattle.mmio_window.specs.Window.{WindowState}
 use Rattle.block_device.specs.declared.operation.HostEvent.{HostEvent}
-use Rattle.block_device.specs.Flights.{InFlight}
 use Rattle.block_device.specs.Tags.{is_any}
 use Rattle.hosted_disk.specs.Disk.{HostedDisk}
 use Rattle.hosted_disk.specs.Told.{has_effect}
@@ -19,85 +16,30 @@ use Rattle.board.specs.declared.event.DeviceEvent.TheVariants as device
 use Rattle.board.specs.declared.event.EventKind.{EventKind}
 use Rattle.board.specs.declared.event.EventKind.TheVariants.{Device}
 use Rattle.board.specs.declared.reply.Reply.{Reply}
-use Rattle.board.specs.Backing.{HostDisk, tags_in}
+use Rattle.board.specs.Backing.{tags_in}
 use Rattle.board.specs.Devices.{DoesIf, GivesByDevice, GivesDevice, IsDeviceStep, has_effect_at, told_reply}
-use Rattle.board.specs.HostedDisks.{DiskUnit, DoesAsSaid, Further, Own, SlotDisk, in_flight_of, own_unit, said_of, said_there, unit_at, unit_of}
-use Rattle.board.specs.Hosting.{DoesAsHostSays, HostOrGives, own_disk, told_in}
+use Rattle.board.specs.HostedDisks.{said_of, said_there}
+use Rattle.board.specs.Units.{DiskUnit, DoesAsSaid, Further, Own, SlotDisk, unit_at, unit_of}
+use Rattle.board.specs.Hosting.{HostOrGives, told_in}
 use Rattle.board.specs.Image.{Health}
 use Rattle.board.specs.Outcome.{Outcome, replies}
 use Rattle.board.specs.Slot.{SlotState}
 use Rattle.board.specs.World.{MayGive, MayGiveBy, MayGiveOverImage}
+use Rattle.board.proofs.Units.{behind_window, disk_there}
 use Rattle.board.proofs.Ways.{Looks, Passes, Rests, Says, Waits, Way, by_disk, must_by, told_says}
-
--- ---- what is in flight of a disk is what its unit has
-
-unit_tags_by : (found : Option DiskUnit) (unit : DiskUnit) → found ≡ Some unit
-    → unit.disk.tags ≡ option_map_or (λ (u : DiskUnit). u.disk.tags) found []
-unit_tags_by None unit is = absurd (cc is)
-unit_tags_by (Some found) unit is = ap (λ (u : DiskUnit). u.disk.tags) (sym (same_Some found unit is))
-
-own_tags_by : (host : Option HostDisk) (state : SlotState) (unit : DiskUnit)
-    → option_map (λ (h : HostDisk). own_unit state) host ≡ Some unit → unit ≡ own_unit state
-own_tags_by None state unit is = absurd (cc is)
-own_tags_by (Some host) state unit is = sym (same_Some (own_unit state) unit is)
-
-pub unit_tags : (disk : SlotDisk) (state : SlotState) (unit : DiskUnit) → unit_at disk state ≡ Some unit
-    → unit.disk.tags ≡ in_flight_of disk state
-unit_tags Own state unit is = ap (λ (u : DiskUnit). u.disk.tags) (own_tags_by state.host state unit is)
-unit_tags (Further n) state unit is = unit_tags_by (unit_at (Further n) state) unit is
-
--- where something is in flight of it, it is there
-pub record IsFound (disk : SlotDisk) (state : SlotState) : Type 0 where
-  pub unit : DiskUnit
-  pub there : unit_at disk state ≡ Some unit
-
-own_found : (host : Option HostDisk) (state : SlotState) (tag : ℕ) (here : InFlight) → state.host ≡ host
-    → get_or (tags_in host) tag None ≡ Some here → IsFound Own state
-own_found None state tag here is taken = absurd (cc taken)
-own_found (Some host) state tag here is taken = record {
-  unit = own_unit state;
-  there = ap (λ (h : Option HostDisk). option_map (λ (k : HostDisk). own_unit state) h) is;
-}
-
-further_found : (n : ℕ) (found : Option DiskUnit) (state : SlotState) (tag : ℕ) (here : InFlight)
-    → unit_at (Further n) state ≡ found
-    → get_or (option_map_or (λ (u : DiskUnit). u.disk.tags) found []) tag None ≡ Some here
-    → IsFound (Further n) state
-further_found n None state tag here is taken = absurd (cc taken)
-further_found n (Some unit) state tag here is taken = record { unit = unit; there = is }
-
-pub found : (disk : SlotDisk) (state : SlotState) (tag : ℕ) (here : InFlight)
-    → get_or (in_flight_of disk state) tag None ≡ Some here → IsFound disk state
-found Own state tag here taken = own_found state.host state tag here refl taken
-found (Further n) state tag here taken = further_found n (unit_at (Further n) state) state tag here refl taken
 
 -- ---- the slot's own does as its host says
 
-own_does : (said : HostEvent) (old new : SlotState) → unit_at Own old ≡ Some (own_unit old)
-    → DoesAsHostSays said old new → DoesAsSaid Own said old new
-own_does said old new there h = record {
-  before = own_unit old;
-  after = record { window = new.block; disk = h.disk };
-  there = there;
-  does = h.does;
-  is = h.is;
-}
-
-own_says : {A : Type 0} (host : Option HostDisk) (old : SlotState) (unit : DiskUnit) (said : HostEvent)
-    (what : EventKind A) (before after : Health) (outcome : Outcome A) → old.host ≡ host
-    → unit_at Own old ≡ Some unit → has_effect said unit.disk ≡ true → told_in what ≡ Some said
+own_says : {A : Type 0} (host : Option HostedDisk) (old : SlotState) (unit : DiskUnit) (said : HostEvent)
+    (what : EventKind A) (before after : Health) (outcome : Outcome A) → old.host ≡ host → host ≡ Some unit.disk
+    → has_effect said unit.disk ≡ true → told_in what ≡ Some said
     → MayGiveBy host old what before after outcome → DoesAsSaid Own said old outcome.state
-own_says None old unit said what before after outcome is there effect told h =
-    let none : None ≡ Some unit =
-    ap (λ (k : Option HostDisk). option_map (λ (d : HostDisk). own_unit old) k) (sym is) ∙ there in
-    absurd (cc none)
+own_says None old unit said what before after outcome is there effect told h = absurd (cc there)
 own_says {A} (Some disk) old unit said what before after outcome is there effect told h =
     let Beside : Outcome A → Type 0 = λ (o : Outcome A). MayGiveOverImage old what before before o in
-    let same : unit ≡ own_unit old = own_tags_by old.host old unit there in
-    own_does said old outcome.state (there ∙ ap Some same)
-    (told_says (has_effect said (own_disk old)) said old outcome
-    (ap (λ (u : DiskUnit). has_effect said u.disk) (sym same) ∙ effect)
-    (subst (λ (f : Option HostEvent). HostOrGives Beside f old what outcome) told h.gives))
+    told_says (option_map_or (has_effect said) old.host false) said old outcome
+    (ap (λ (k : Option HostedDisk). option_map_or (has_effect said) k false) (is ∙ there) ∙ effect)
+    (subst (λ (f : Option HostEvent). HostOrGives Beside f old what outcome) told h.gives)
 
 -- ---- and so does a further one
 
@@ -118,10 +60,6 @@ further_over {A} {P} n what old before after outcome over h =
     by_way (Rests said tells h) = absurd (cc tells)
     by_way (Says said tells does h) = absurd (cc tells)
 
--- a disk behind this window
-abbrev pub behind_window : WindowState → HostedDisk → DiskUnit
-behind_window window disk = record { window = window; disk = disk }
-
 unit_in : (d : DeviceState) (disk : HostedDisk) → d.model ≡ Block disk
     → unit_of d ≡ Some (behind_window d.window disk)
 unit_in d disk is = ap (λ (model : ModelState). option_map (behind_window d.window) (disk_of model)) is
@@ -129,17 +67,6 @@ unit_in d disk is = ap (λ (model : ModelState). option_map (behind_window d.win
 device_is : (d : DeviceState) (disk : HostedDisk) → d.model ≡ Block disk
     → d ≡ record { window = d.window; model = Block disk }
 device_is d disk is = ap (λ (model : ModelState). record d { model = model }) is
-
-disk_behind : (window : WindowState) (found : Option HostedDisk) (unit : DiskUnit)
-    → option_map (behind_window window) found ≡ Some unit → found ≡ Some unit.disk
-disk_behind window None unit is = absurd (cc is)
-disk_behind window (Some disk) unit is =
-    ap (λ (u : DiskUnit). Some u.disk) (same_Some (behind_window window disk) unit is)
-
-disk_found : (found : Option DeviceState) (unit : DiskUnit) → option_and_then unit_of found ≡ Some unit
-    → option_and_then (λ (d : DeviceState). disk_of d.model) found ≡ Some unit.disk
-disk_found None unit is = absurd (cc is)
-disk_found (Some d) unit is = disk_behind d.window (disk_of d.model) unit is
 
 told_does : {A : Type 0} (n : ℕ) (said : HostEvent) (old : SlotState) (reply : Reply A) (outcome : Outcome A)
     → At (Told said) n old.memory outcome.state.memory old.devices outcome.state.devices
@@ -163,7 +90,7 @@ pub further_does : {A : Type 0} (n : ℕ) (said : HostEvent) (old : SlotState) (
     → GivesDevice n (device.Host said) old before after outcome → DoesAsSaid (Further n) said old outcome.state
 further_does {A} n said old unit before after outcome there effect h =
     let effect_is : has_effect_at n said old.devices ≡ Some true =
-    ap (option_map (has_effect said)) (disk_found (slice_get old.devices n) unit there) ∙ ap Some effect in
+    ap (option_map (has_effect said)) (disk_there (Further n) old unit there) ∙ ap Some effect in
     let step : IsDeviceStep n (device.Host said) old (told_reply true) before after outcome =
     subst (λ (f : Option Bool).
     GivesByDevice (option_map told_reply f) n (device.Host said) old before after outcome) effect_is h in
@@ -206,6 +133,6 @@ pub says : {A : Type 0} (disk : SlotDisk) (old : SlotState) (unit : DiskUnit) (s
     (before after : Health) (outcome : Outcome A) → unit_at disk old ≡ Some unit → has_effect said unit.disk ≡ true
     → said_of disk what ≡ Some said → MayGive old what before after outcome → DoesAsSaid disk said old outcome.state
 says Own old unit said what before after outcome there effect told h =
-    own_says old.host old unit said what before after outcome refl there effect told h
+    own_says old.host old unit said what before after outcome refl (disk_there Own old unit there) effect told h
 says (Further n) old unit said what before after outcome there effect told h =
     further_says n old unit said what before after outcome there effect told h

@@ -16,7 +16,8 @@ use Rattle.board.specs.declared.pause.Turn.{Turn}
 use Rattle.board.specs.declared.pause.Turn.TheVariants.{Answered, More}
 use Rattle.board.specs.declared.reply.Reply.{Reply}
 use Rattle.board.specs.declared.reply.Reply.TheVariants.{Busy, NoMemory}
-use Rattle.board.specs.Backing.{HostDisk, tags_in}
+use Rattle.hosted_disk.specs.Disk.{HostedDisk}
+use Rattle.board.specs.Backing.{tags_in}
 use Rattle.board.specs.Hosting.{HostGives, HostOrGives, LooksAtQueue, OwnGives, has_part, is_block_task, must_wait, notifies_block, told_in, waits_now}
 use Rattle.board.specs.Image.{Health, sectors_of}
 use Rattle.board.specs.Outcome.{Outcome, does, replies}
@@ -42,13 +43,13 @@ use Rattle.board.proofs.Ways.{must_by}
 
 -- ---- whether the host has a part in it
 
-pub no_host : {A : Type 0} (host : Option HostDisk) (what : EventKind A) (state : SlotState) → host ≡ None
+pub no_host : {A : Type 0} (host : Option HostedDisk) (what : EventKind A) (state : SlotState) → host ≡ None
     → has_part host what state ≡ false
 no_host None what state is = refl
 no_host (Some disk) what state is = absurd (cc)
 
 -- it has in what the host says, in what waits, and in a notification of the block device
-pub part_by_host : {A : Type 0} (host : Option HostDisk) (what : EventKind A) (state : SlotState)
+pub part_by_host : {A : Type 0} (host : Option HostedDisk) (what : EventKind A) (state : SlotState)
     (said : HostEvent) → IsSome host → told_in what ≡ Some said → has_part host what state ≡ true
 part_by_host None what state said hosted is = absurd (cc)
 part_by_host (Some disk) what state said hosted is = rw is refl
@@ -64,14 +65,14 @@ rings_by false true rings is = refl
 rings_by false false true is = refl
 rings_by false false false is = absurd (cc)
 
-part_waiting : {A : Type 0} (host : Option HostDisk) (what : EventKind A) (state : SlotState) → IsSome host
+part_waiting : {A : Type 0} (host : Option HostedDisk) (what : EventKind A) (state : SlotState) → IsSome host
     → waits_now what state.host ≡ true → has_part host what state ≡ true
 part_waiting None what state hosted waits = absurd (cc)
 part_waiting (Some disk) what state hosted waits =
     waits_by (is_some (told_in what)) (waits_now what state.host) (notifies_block what state) waits
 
 -- only a disk of its own has what is in flight
-pub waits_hosted : {A : Type 0} (what : EventKind A) (host : Option HostDisk) → waits_now what host ≡ true
+pub waits_hosted : {A : Type 0} (what : EventKind A) (host : Option HostedDisk) → waits_now what host ≡ true
     → IsSome host
 waits_hosted what None waits = absurd (cc waits)
 waits_hosted what (Some disk) waits = refl
@@ -80,13 +81,13 @@ pub part_by_wait : {A : Type 0} (what : EventKind A) (state : SlotState) → wai
     → has_part state.host what state ≡ true
 part_by_wait what state waits = part_waiting state.host what state (waits_hosted what state.host waits) waits
 
-pub part_by_ring : {A : Type 0} (host : Option HostDisk) (what : EventKind A) (state : SlotState)
+pub part_by_ring : {A : Type 0} (host : Option HostedDisk) (what : EventKind A) (state : SlotState)
     → IsSome host → notifies_block what state ≡ true → has_part host what state ≡ true
 part_by_ring None what state hosted rings = absurd (cc)
 part_by_ring (Some disk) what state hosted rings =
     rings_by (is_some (told_in what)) (waits_now what state.host) (notifies_block what state) rings
 
-pub no_part : {A : Type 0} (host : Option HostDisk) (what : EventKind A) (state : SlotState)
+pub no_part : {A : Type 0} (host : Option HostedDisk) (what : EventKind A) (state : SlotState)
     → told_in what ≡ None → waits_now what state.host ≡ false
     → notifies_block what state ≡ false → has_part host what state ≡ false
 no_part None what state own free quiet = refl
@@ -97,7 +98,7 @@ no_wait true = refl
 no_wait false = refl
 
 -- in what is typed it has none
-pub input_passes : (A : Type 0) (host : Option HostDisk) (bytes : List ℕ) (state : SlotState)
+pub input_passes : (A : Type 0) (host : Option HostedDisk) (bytes : List ℕ) (state : SlotState)
     → has_part {A = A} host (Input bytes) state ≡ false
 input_passes A host bytes state =
     no_part {A = A} host (Input bytes) state refl (no_wait (is_any (tags_in state.host))) refl
@@ -107,7 +108,7 @@ place_of : (old new : BoardSlot) → new ≡ record old { memory = new.memory; d
 place_of old new rest = (ap (λ (s : BoardSlot). s.extent) rest, ap (λ (s : BoardSlot). s.spare) rest)
 
 -- a service of the console goes on as over an image
-pub goes_on : (host : Option HostDisk) (which : Service) → which ≢ service.Block
+pub goes_on : (host : Option HostedDisk) (which : Service) → which ≢ service.Block
     → is_hosts host which ≡ false
 goes_on None which other = refl
 goes_on (Some disk) service.Block other = absurd (other refl)
@@ -207,7 +208,7 @@ serves_image {A} what budget state before after new turn out out' none h = recor
       (sym (no_host state.host what state none))
       (turns_as (λ (o : Outcome A). MayGiveOverImage state what before after o)
       (λ (o : Outcome A). MayGive state what before after o)
-      (λ o given. subst (λ (k : Option HostDisk). MayGiveBy k state what before after o) (sym none) given)
+      (λ o given. subst (λ (k : Option HostedDisk). MayGiveBy k state what before after o) (sym none) given)
       (asked_over_image what state) what budget state before after new h.output turn h.comes);
   appended = h.appended;
 }
@@ -287,7 +288,7 @@ ringing_silent limit state new _ waiting reply rings = absurd (cc)
 
 -- ---- what comes of it
 
-given_at : {A : Type 0} (host : Option HostDisk) (state : SlotState) (what : EventKind A) (health : Health)
+given_at : {A : Type 0} (host : Option HostedDisk) (state : SlotState) (what : EventKind A) (health : Health)
     (outcome : Outcome A) → IsSome host
     → HostOrGives (λ (o : Outcome A). MayGiveOverImage state what health health o) (told_in what) state what
     outcome
@@ -346,7 +347,7 @@ notified_given state mid new what health hosted free rings ready looks =
     (subst (λ (s : SlotState). LooksAtQueue s new) ready looks)
 
 -- where the host has no disk
-pub not_hosted : (host : Option HostDisk) → is_some host ≡ false → host ≡ None
+pub not_hosted : (host : Option HostedDisk) → is_some host ≡ false → host ≡ None
 not_hosted None is = refl
 not_hosted (Some disk) is = absurd (cc)
 

@@ -2,7 +2,7 @@
 use Rattle.std.proofs.Common.{◌≡◌, ◌≢◌, ◌⊎◌, inl, inr, ℕ, zero, suc, ◌+◌, ◌*◌, ◌≤◌, Bool, true, false, Option, Some, None, Result, Ok, Err, List, [], length, take, drop, refl, sym, ap, subst, ◌∙◌, append-nil, arith, length-take, length-drop}
 use Rattle.std.specs.Prelude.{◌-◌, IfErr, IfOk, OnErr, is_err, if◌then◌else◌, nat_le, nat_lt, is_some, IsSome, IfSome}
 use Rattle.std.specs.List.{slice_get}
-use Rattle.std.specs.Option.{option_and_then}
+use Rattle.std.specs.Option.{option_and_then, option_map}
 use Rattle.std.proofs.lemmas.Bool.{cases_eq}
 use Rattle.std.proofs.lemmas.Bool.Decides.{nat_tests}
 use Rattle.std.proofs.lemmas.Option.{same_Some}
@@ -37,7 +37,8 @@ use Rattle.board.specs.declared.pause.Turn.TheVariants.{Answered}
 use Rattle.board.specs.declared.reply.Reply.TheVariants.{BadRange, BadSlot, NoMemory}
 use Rattle.board.specs.declared.pause.Service.{Service}
 use Rattle.board.specs.declared.pause.Service.TheVariants.{Block, Receive, Transmit, Further}
-use Rattle.board.specs.Backing.{HostDisk}
+use Rattle.hosted_disk.specs.Disk.{HostedDisk}
+use Rattle.board.specs.Backing.{held_disk}
 use Rattle.board.specs.Image.{Health, Tells, bytes_of, health_of, disk_with}
 use Rattle.board.specs.ImageDisks.{bytes_in, image_device, image_disk_of, image_served, image_served_in}
 use Rattle.board.specs.Flights.{KeepsFlights}
@@ -203,14 +204,14 @@ served_any Transmit slot image = refl
 served_any (Further n zero) slot image = refl
 served_any (Further n (suc q)) slot image = refl
 
-record Found (host : Option HostDisk) (spare : ℕ) (found : Option BlockDevice) : Type 0 where
+record Found (host : Option HostedDisk) (spare : ℕ) (found : Option BlockDevice) : Type 0 where
   pub disk : BlockDevice
   pub found_is : found ≡ Some disk
   pub within : disk.extent.start + disk.extent.count ≤ spare
   pub host_is : host ≡ None
   pub is : image_disk_of host spare found ≡ Some disk
 
-found_disk : (host : Option HostDisk) (spare : ℕ) (found : Option BlockDevice)
+found_disk : (host : Option HostedDisk) (spare : ℕ) (found : Option BlockDevice)
     → IsSome (image_disk_of host spare found) → Found host spare found
 found_disk (Some host) spare found some = absurd (cc)
 found_disk None spare None some = absurd (cc)
@@ -279,7 +280,7 @@ further_piece slot image n q stage budget progress health new output none h =
     output) (sym (served_any (Further n q) slot image ∙ none)) h
 
 -- a device that takes what is supplied, or a frame, is no disk
-pub supplied_none : (n : ℕ) (bytes : List ℕ) (devices changed : List DeviceState) (taken : ℕ) (host : Option HostDisk)
+pub supplied_none : (n : ℕ) (bytes : List ℕ) (devices changed : List DeviceState) (taken : ℕ) (host : Option HostedDisk)
     (spare : ℕ) → Some taken ≡ option_and_then (supply_taken bytes) (slice_get devices n)
     → changed ≡ changed_at (with_model (supplied bytes)) n devices
     → image_disk_of host spare (image_at n changed) ≡ None
@@ -288,7 +289,7 @@ supplied_none n bytes devices changed taken host spare takes is =
     (ap (λ (l : List DeviceState). image_at n l) is ∙ supply_keeps n n bytes devices
     ∙ supply_is_no_image n devices bytes taken (sym takes))
 
-pub received_none : (n : ℕ) (frame : List ℕ) (devices changed : List DeviceState) (host : Option HostDisk) (spare : ℕ)
+pub received_none : (n : ℕ) (frame : List ℕ) (devices changed : List DeviceState) (host : Option HostedDisk) (spare : ℕ)
     → receive_refusal frame (card_at n devices) ≡ None → changed ≡ changed_at (with_model (received frame)) n devices
     → image_disk_of host spare (image_at n changed) ≡ None
 received_none n frame devices changed host spare takes is =
@@ -499,7 +500,7 @@ module _ {A : Type 0} (n : ℕ) (what : DeviceEvent A) (budget : Budget) (old ne
   device_notified (Ok turn) asks hosted = refl
   device_notified (Err pause) asks hosted =
       let host : new.host ≡ old.host = ap (λ (s : BoardSlot). s.host) asks.rest in
-      let none = hosted_serves_none pause.service (state_of [] new) (subst (λ (h : Option HostDisk). IsSome h) (sym host) hosted) in
+      let none = hosted_serves_none pause.service (state_of [] new) (subst (λ (h : Option HostedDisk). IsSome h) (sym host) hosted) in
       let never : IsSome {T = BlockDevice} None = subst (λ (o : Option BlockDevice). IsSome o) none asks.image in absurd (cc never)
 
   pub device_asked : (r : Result (Turn A) Pause) → Asked r
@@ -538,13 +539,13 @@ module _ {A : Type 0} (n : ℕ) (what : DeviceEvent A) (budget : Budget) (old ne
   pub device_keeps : (r : Result (Turn A) Pause) → Begun r → Asked r → KeepsFlights (Device n what) old new
   device_keeps (Ok turn) begun asks = record {
     block = λ free. ap (λ (s : BoardSlot). s.block) begun.rest;
-    host = ap (λ (s : BoardSlot). s.host) begun.rest;
+    host = ap (λ (s : BoardSlot). option_map (held_disk false) s.host) begun.rest;
     range = begun.range;
     place = (ap (λ (s : BoardSlot). s.extent) begun.rest, ap (λ (s : BoardSlot). s.spare) begun.rest);
   }
   device_keeps (Err pause) begun asks = record {
     block = λ free. ap (λ (s : BoardSlot). s.block) asks.rest;
-    host = ap (λ (s : BoardSlot). s.host) asks.rest;
+    host = ap (λ (s : BoardSlot). option_map (held_disk false) s.host) asks.rest;
     range = range_of old.memory new.memory (ap (λ (s : BoardSlot). s.memory) asks.rest);
     place = (ap (λ (s : BoardSlot). s.extent) asks.rest, ap (λ (s : BoardSlot). s.spare) asks.rest);
   }

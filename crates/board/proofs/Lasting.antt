@@ -30,7 +30,8 @@ use Rattle.board.specs.declared.event.EventKind.{EventKind}
 use Rattle.block_device.specs.declared.operation.HostEvent.{HostEvent}
 use Rattle.block_device.specs.declared.operation.HostEvent.TheVariants.{Complete, Drop, Hold, Release}
 use Rattle.board.specs.declared.reply.Record.{Record}
-use Rattle.board.specs.HostedDisks.{DiskUnit, DoesAsSaid, LeavesTagOf, SlotDisk, in_flight_of, said_of, unit_at, unit_queue}
+use Rattle.board.specs.HostedDisks.{LeavesTagOf, said_of}
+use Rattle.board.specs.Units.{DiskUnit, DoesAsSaid, SlotDisk, in_flight_of, unit_at, unit_queue}
 use Rattle.board.specs.Hosting.{tag_of}
 use Rattle.board.specs.Image.{Health}
 use Rattle.board.specs.Lasting.{Becomes, Completed, GivenUp, HasCourse, IsAnswered, IsCourse, Passage, Standing, Stays, behind, behind_all, completed, completed_in, completions, covers, said_by}
@@ -41,7 +42,8 @@ use Rattle.board.specs.Steps.{IsAnsweredBy}
 use Rattle.board.specs.World.{MayGive, World}
 use Rattle.board.proofs.Alone.{alone_as_it_may}
 use Rattle.board.proofs.Honest.{given_back}
-use Rattle.board.proofs.HostedDisks.{found, says, unit_tags}
+use Rattle.board.proofs.HostedDisks.{says}
+use Rattle.board.proofs.Units.{found, unit_tags}
 use Rattle.board.proofs.Waiting.{outlasts}
 
 -- ---- what is served at once

@@ -44,6 +44,7 @@ pub mod Beside
 pub mod Hosts
 pub mod OneHosted
 pub mod Ways
+pub mod Units
 pub mod HostedDisks
 pub mod DiskSteps
 pub mod OnHost

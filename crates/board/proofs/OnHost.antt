@@ -8,7 +8,7 @@ use Rattle.board.specs.declared.pause.Pause.{Pause}
 use Rattle.board.specs.declared.pause.Turn.{Turn}
 use Rattle.board.specs.declared.pause.Turn.TheVariants.{Answered, More}
 use Rattle.board.specs.declared.reply.Reply.TheVariants.{NoMemory}
-use Rattle.board.specs.Backing.{HostDisk}
+use Rattle.hosted_disk.specs.Disk.{HostedDisk}
 use Rattle.board.specs.Hosting.{HostOrGives, has_part, notifies_block, told_in, waits_now}
 use Rattle.board.specs.Image.{Health}
 use Rattle.board.specs.Outcome.{Outcome}
@@ -25,7 +25,7 @@ pub record IsBeside {A : Type 0} (what : EventKind A) (state : SlotState) : Type
   pub free : waits_now what state.host ≡ false
   pub quiet : notifies_block what state ≡ false
 
-pub is_beside : {A : Type 0} (disk : HostDisk) (what : EventKind A) (state : SlotState)
+pub is_beside : {A : Type 0} (disk : HostedDisk) (what : EventKind A) (state : SlotState)
     → has_part (Some disk) what state ≡ false → IsBeside what state
 is_beside disk what state free = by_told (told_in what) refl free
   where
@@ -43,7 +43,7 @@ is_beside disk what state free = by_told (told_in what) refl free
         by_rest (waits_now what state.host) (notifies_block what state) refl refl own none
     by_told (Some said) own none = absurd (cc)
 
-pub passes : {A : Type 0} (Beside : Outcome A → Type 0) (disk : HostDisk) (state : SlotState)
+pub passes : {A : Type 0} (Beside : Outcome A → Type 0) (disk : HostedDisk) (state : SlotState)
     (what : EventKind A) (outcome : Outcome A) → has_part (Some disk) what state ≡ false → Beside outcome
     → HostOrGives Beside (told_in what) state what outcome
 passes Beside disk state what outcome free h =
@@ -51,14 +51,14 @@ passes Beside disk state what outcome free h =
     rw (is.own, is.free, is.quiet) h
 
 -- an event that notifies the block device is none
-pub ringing_part : {A : Type 0} (disk : HostDisk) (what : EventKind A) (state : SlotState)
+pub ringing_part : {A : Type 0} (disk : HostedDisk) (what : EventKind A) (state : SlotState)
     → notifies_block what state ≡ true → has_part (Some disk) what state ≡ false → ⊥
 ringing_part disk what state rings free =
     let quiet = (is_beside disk what state free).quiet in
     cc (rings, quiet)
 
 -- what comes of it over an image that stays as it is comes of it
-pub passes_by : {A : Type 0} (host : Option HostDisk) (state : SlotState) (what : EventKind A)
+pub passes_by : {A : Type 0} (host : Option HostedDisk) (state : SlotState) (what : EventKind A)
     (health : Health) (outcome : Outcome A) → has_part host what state ≡ false
     → MayGiveOverImage state what health health outcome → MayGiveBy host state what health health outcome
 passes_by None state what health outcome free h = h

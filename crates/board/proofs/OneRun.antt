@@ -27,7 +27,7 @@ use Rattle.board.specs.declared.reply.Reply.{Reply}
 use Rattle.board.specs.declared.reply.Reply.TheVariants.{Done, Took}
 use Rattle.board.specs.declared.reply.Record.{Record}
 use Rattle.board.specs.declared.pause.Service.TheVariants.{Block, Receive, Transmit, Further}
-use Rattle.board.specs.Backing.{HostDisk}
+use Rattle.hosted_disk.specs.Disk.{HostedDisk}
 use Rattle.board.specs.Hosting.{HostOrGives, LooksOrGives, OwnGives, is_block_task, notifies_block, told_in, waits_now}
 use Rattle.board.specs.Image.{Health, disk_with}
 use Rattle.board.specs.ImageDisks.{GivesAtDevice, IsImageDiskService, bytes_in, device_readied, image_asked, image_device}
@@ -110,7 +110,7 @@ task_beside (PutOut byte) old health outcome quiet h = record { alike = h.alike;
 task_beside (Serve (Further n q)) old health outcome quiet h = absurd h
 task_beside _ old health outcome quiet h = record { notified = h.notified; is = h.is; image = refl }
 
-rests_beside : {A : Type 0} (state : SlotState) (own : HostDisk) (what : EventKind A) (health : Health) (outcome : Outcome A)
+rests_beside : {A : Type 0} (state : SlotState) (own : HostedDisk) (what : EventKind A) (health : Health) (outcome : Outcome A)
     → state.host ≡ Some own → notifies_block what state ≡ false → GivesOverImage state what health health outcome
     → GivesOverImage state what at_rest at_rest outcome
 rests_beside state own (Write window offset width value) health outcome hosted quiet h =
@@ -148,20 +148,20 @@ on_host_as {A} One Other state what outcome turn h = by_told (told_in what) h
     by_told (Some said) given = given
 
 -- what an event gives is what comes of it for a guest alone
-next_by : {A : Type 0} (host : Option HostDisk) (state : SlotState) (what : EventKind A) (before after : Health)
+next_by : {A : Type 0} (host : Option HostedDisk) (state : SlotState) (what : EventKind A) (before after : Health)
     (outcome : Outcome A) → state.host ≡ host → GivesBy host state what before after outcome
     → IsNext state what outcome
 next_by None state what before after outcome is h =
     let rested = rests_over_image state what before after outcome h in
     record {
       after = rested.after;
-      gives = subst (λ (k : Option HostDisk). GivesBy k state what at_rest rested.after outcome) (sym is)
+      gives = subst (λ (k : Option HostedDisk). GivesBy k state what at_rest rested.after outcome) (sym is)
           rested.gives;
     }
 next_by {A} (Some disk) state what before after outcome is h =
     record {
       after = at_rest;
-      gives = subst (λ (k : Option HostDisk). GivesBy k state what at_rest at_rest outcome) (sym is) (record {
+      gives = subst (λ (k : Option HostedDisk). GivesBy k state what at_rest at_rest outcome) (sym is) (record {
         gives = on_host_as (λ (o : Outcome A). GivesOverImage state what before before o)
             (λ (o : Outcome A). GivesOverImage state what at_rest at_rest o) state what outcome
             (λ quiet given. rests_beside state disk what before outcome is quiet given) h.gives;
@@ -331,7 +331,7 @@ over_image_once state (event.Device n what) h k one other a b = by_asked (image_
 over_image_once state _ h k one other a b = a.alike ∙ sym b.alike
 
 -- and whoever has the guest's disk
-once_by : {A : Type 0} (host : Option HostDisk) (state : SlotState) (what : EventKind A) (h k : Health)
+once_by : {A : Type 0} (host : Option HostedDisk) (state : SlotState) (what : EventKind A) (h k : Health)
     (one other : Outcome A) → GivesBy host state what at_rest h one → GivesBy host state what at_rest k other
     → one ≡ other
 once_by None state what h k one other a b = over_image_once state what h k one other a b

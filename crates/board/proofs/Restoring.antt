@@ -1,6 +1,7 @@
 -- A restore as an event: it has one outcome, and a slot that takes up a snapshot gives it.
 use Rattle.std.proofs.Common.{◌≡◌, ◌∙◌, inl, inr, ℕ, Bool, true, false, List, [], Option, Some, None, Result, Ok, Err, refl, sym, ap, subst}
 use Rattle.std.specs.Prelude.{IfErr, IsSome, OnErr, OnOk}
+use Rattle.std.specs.Option.{option_map}
 use Rattle.sector_cache.specs.Sector.{extent_of}
 use Rattle.snapshot.specs.declared.saved.SavedSlot.{SavedSlot}
 use Rattle.snapshot.specs.Spelling.{IsSnapshot}
@@ -13,7 +14,8 @@ use Rattle.board.specs.declared.saved.RestoreFault.{RestoreFault}
 use Rattle.board.specs.declared.saved.RestoreFault.TheVariants.{Snapshot, OtherSlot, BadDevice, BadBlock, BadConsole, BadDeviceWindow}
 use Rattle.board.specs.Image.{Health, sectors_of}
 use Rattle.board.specs.Outcome.{Outcome, does, replies}
-use Rattle.board.specs.Backing.{sectors_by}
+use Rattle.hosted_disk.specs.Disk.{HostedDisk}
+use Rattle.board.specs.Backing.{KeepsHost, held_disk, sectors_by}
 use Rattle.board.specs.Restoring.{IsRestoring, IsTakenUp, RestoresUnless, slot_in, taken_up_reply}
 use Rattle.board.specs.Saved.{IsCauseOf, IsPrevented, IsRestored, Prevents, Suits, SuitsBesideDevices, TakesUp}
 use Rattle.board.specs.Slot.{BoardSlot, SlotState, state_of, spare_start}
@@ -149,11 +151,17 @@ restored_named false state bytes outcome (inl a) = ap (λ (slot : BoardSlot). sl
 restored_named false state bytes outcome (inr a) = ap (λ o. o.state.identity) a.1
 
 -- and who has the disk
+hold_kept : (on_hold : Bool) (host : Option HostedDisk) → KeepsHost host (option_map (held_disk on_hold) host)
+hold_kept on_hold None = refl
+hold_kept on_hold (Some disk) = refl
+
 pub restored_host : {A : Type 0} (works : Bool) (state : SlotState) (bytes : List ℕ) (outcome : Outcome A)
-    → RestoresUnless works state bytes outcome → outcome.state.host ≡ state.host
-restored_host true state bytes outcome a = ap (λ o. o.state.host) a
-restored_host false state bytes outcome (inl a) = ap (λ (slot : BoardSlot). slot.host) a.0.restored.takes_up.is
-restored_host false state bytes outcome (inr a) = ap (λ o. o.state.host) a.1
+    → RestoresUnless works state bytes outcome → KeepsHost state.host outcome.state.host
+restored_host true state bytes outcome a = ap (λ o. option_map (held_disk false) o.state.host) a
+restored_host false state bytes outcome (inl a) =
+    ap (λ (slot : BoardSlot). option_map (held_disk false) slot.host) a.0.restored.takes_up.is
+    ∙ hold_kept a.0.restored.saved.on_hold state.host
+restored_host false state bytes outcome (inr a) = ap (λ o. option_map (held_disk false) o.state.host) a.1
 
 -- ---- a slot gives it
 

@@ -20,6 +20,7 @@ use Rattle.device_list.specs.Saved.{RestoresEach, devices_restored, saved_device
 use Rattle.snapshot.specs.declared.saved.SavedDevice.{SavedDevice}
 use Rattle.board.specs.declared.saved.RestoreFault.{RestoreFault}
 use Rattle.board.specs.declared.saved.RestoreFault.TheVariants.{Snapshot, OtherSlot, BadDevice, BadBlock, BadConsole, BadDeviceWindow}
+use Rattle.board.specs.Backing.{is_held}
 use Rattle.board.specs.Saved.{IsAs, IsCauseOf, IsLike, IsRestored, IsSavedTo, IsSnapshotOf, OffersFeatures, Prevents, RestoresIt, SuitsBesideDevices, TakesUp, block_restored, console_restored, saved_slot, snapshot_of, with_windows_of}
 use Rattle.block_device.specs.Config.{block_features}
 use Rattle.board.specs.Slot.{BoardSlot, IsSoundSlot}
@@ -143,7 +144,7 @@ as_saved slot old new bytes saved is like e takes =
     let pending_saved : saved.1 ≡ slot.pending = ap (λ (x : SavedSlot × List ℕ). x.1) e in
     let cols_saved : saved.0.cols ≡ slot.cols = ap (λ (x : SavedSlot × List ℕ). x.0.cols) e in
     let rows_saved : saved.0.rows ≡ slot.rows = ap (λ (x : SavedSlot × List ℕ). x.0.rows) e in
-    let hold_saved : saved.0.on_hold ≡ slot.on_hold = ap (λ (x : SavedSlot × List ℕ). x.0.on_hold) e in
+    let hold_saved : saved.0.on_hold ≡ is_held slot.host = ap (λ (x : SavedSlot × List ℕ). x.0.on_hold) e in
     let block : new.block ≡ slot.block
     = same_value _ _ _ (ap (block_restored old.memory) (sym block_saved)
     ∙ takes.block) (is.block old.memory like.memory) in

@@ -1,6 +1,7 @@
 -- An event that touches no memory: its bytes stay, and the same comes of it over any others.
 use Rattle.std.proofs.Common.{◌≡◌, inl, inr, ℕ, Bool, true, false, Option, Some, None, List, refl, sym, ◌∙◌, ap, subst}
 use Rattle.std.specs.Prelude.{IsSome}
+use Rattle.std.specs.Option.{option_map_or}
 use Rattle.guest_memory.specs.Memory.{Memory, SameRange}
 use Rattle.mmio_window.specs.declared.device_kind.DeviceKind.TheVariants as kind
 use Rattle.board.specs.declared.event.SlotWindow.{SlotWindow}
@@ -13,14 +14,14 @@ use Rattle.block_device.specs.declared.operation.HostEvent.{HostEvent}
 use Rattle.block_device.specs.declared.operation.HostEvent.TheVariants.{Complete, Drop, Hold, Release}
 use Rattle.block_device.specs.declared.operation.Verdict.{Verdict}
 use Rattle.block_device.specs.Flights.{HostedQueue}
-use Rattle.hosted_disk.specs.Disk.{queue_of}
+use Rattle.hosted_disk.specs.Disk.{HostedDisk}
 use Rattle.hosted_disk.specs.Told.{QueueTold, has_effect}
 use Rattle.board.specs.declared.reply.Reply.{Reply}
 use Rattle.board.specs.declared.reply.Reply.TheVariants.{Value, NoMemory, Idle}
 use Rattle.board.specs.declared.saved.RestoreFault.{RestoreFault}
 use Rattle.board.specs.declared.saved.RestoreFault.TheVariants.{Snapshot, OtherSlot, BadDevice, BadBlock, BadConsole, BadDeviceWindow}
-use Rattle.board.specs.Backing.{HostDisk}
-use Rattle.board.specs.Hosting.{DoesAsHostSays, GivesOnHost, HostOrGives, OwnGives, ToldGives, hosted_device, is_block_task, notifies_block, own_disk, told_in, waits_now}
+use Rattle.board.specs.Hosting.{GivesOnHost, HostOrGives, OwnGives, ToldGives, is_block_task, notifies_block, told_in, waits_now}
+use Rattle.board.specs.Units.{DoesAsSaid, Own, unit_queue}
 use Rattle.board.specs.Image.{Health}
 use Rattle.board.specs.Machine.{Gives, GivesBy, GivesOverImage, register, resized, task_at, with_write}
 use Rattle.board.specs.Outcome.{IsDetermined, Outcome, does, replies}
@@ -290,15 +291,20 @@ module _ {A : Type 0} (Here There : Outcome A → Type 0) (old : SlotState) (m :
   own_over false h = rw silent_too (beside (rw silent at h))
 
   -- what the disk does for which memory has no part
-  says_over : (said : HostEvent) (h : DoesAsHostSays said old outcome.state)
+  says_over : (said : HostEvent) (h : DoesAsSaid Own said old outcome.state)
       → (outcome.state.memory ≡ old.memory)
-      × QueueTold said (hosted_device old) old.on_hold (queue_of m old.block (own_disk old))
-      (queue_of m outcome.state.block h.disk)
+      × QueueTold said h.before.disk.device h.before.disk.on_hold (unit_queue m h.before) (unit_queue m h.after)
       → outcome ≡ does outcome.state → Stays (ToldGives true said (over_memory m old)) old.memory m outcome
   says_over said h over done = (
     over.0,
     (
-      record { disk = h.disk; does = record { queue = over.1; is = h.does.is }; is = ap (over_memory m) h.is },
+      record {
+        before = h.before;
+        after = h.after;
+        there = h.there;
+        does = record { queue = over.1; is = h.does.is };
+        is = ap (over_memory m) h.is;
+      },
       ap (outcome_over m) done,
     ),
   )
@@ -325,8 +331,8 @@ module _ {A : Type 0} (Here There : Outcome A → Type 0) (old : SlotState) (m :
   host_over None is none h = own_over (waits_now what old.host) h
   host_over (Some (Complete tag verdict)) is none h =
       let touches = completion_touches what old tag verdict is in absurd (cc (touches, none))
-  host_over (Some Drop) is none h = drop_over (has_effect Drop (own_disk old)) h
-  host_over (Some Hold) is none h = hold_over (has_effect Hold (own_disk old)) h
+  host_over (Some Drop) is none h = drop_over (option_map_or (has_effect Drop) old.host false) h
+  host_over (Some Hold) is none h = hold_over (option_map_or (has_effect Hold) old.host false) h
   host_over (Some Release) is none h =
       let touches = release_touches what old is in absurd (cc (touches, none))
 
@@ -343,7 +349,7 @@ on_host_over Here There old what m before after outcome none beside h =
     (given.0, record { gives = given.1; image = h.image })
 
 module _ {A : Type 0} (what : EventKind A) (before after : Health) where
-  given_over : (host : Option HostDisk) (old : SlotState) (m : Memory) (outcome : Outcome A)
+  given_over : (host : Option HostedDisk) (old : SlotState) (m : Memory) (outcome : Outcome A)
       → touches_memory what old ≡ false → SameRange old.memory m → GivesBy host old what before after outcome
       → Stays (GivesBy host (over_memory m old) what before after) old.memory m outcome
   given_over None old m outcome none same h = gives_over old what m before after outcome none same h
@@ -351,7 +357,7 @@ module _ {A : Type 0} (what : EventKind A) (before after : Health) where
       on_host_over (GivesOverImage old what before before) (GivesOverImage (over_memory m old) what before before)
       old what m before after outcome none (gives_over old what m before before outcome none same) h
 
-  allowed_over : (host : Option HostDisk) (old : SlotState) (m : Memory) (outcome : Outcome A)
+  allowed_over : (host : Option HostedDisk) (old : SlotState) (m : Memory) (outcome : Outcome A)
       → touches_memory what old ≡ false → SameRange old.memory m → MayGiveBy host old what before after outcome
       → Stays (MayGiveBy host (over_memory m old) what before after) old.memory m outcome
   allowed_over None old m outcome none same h = may_over old what m before after outcome none same h

@@ -12,13 +12,16 @@ use Rattle.board.specs.declared.event.EventKind.TheVariants.{Restore, Device}
 use Rattle.block_device.specs.declared.operation.HostEvent.TheVariants.{Complete, Drop, Hold, Release}
 use Rattle.block_device.specs.declared.operation.Verdict.{Verdict}
 use Rattle.board.specs.declared.reply.Reply.TheVariants.{Busy, Idle}
-use Rattle.board.specs.Backing.{HostDisk, tags_in}
-use Rattle.board.specs.HostedDisks.{LeavesTagOf, SlotDisk, in_flight_of, on_hold_of, said_of}
+use Rattle.hosted_disk.specs.Disk.{HostedDisk, queue_of}
+use Rattle.board.specs.Backing.{tags_in}
+use Rattle.board.specs.HostedDisks.{LeavesTagOf, said_of}
+use Rattle.board.specs.Units.{SlotDisk, disk_for, in_flight_of}
 use Rattle.board.specs.Hosting.{must_wait, tag_of, waits_now}
 use Rattle.board.specs.Image.{Health}
 use Rattle.board.specs.Outcome.{Outcome, replies}
 use Rattle.board.specs.Slot.{SlotState}
 use Rattle.board.specs.World.{MayGive, MayGiveBy, MayGiveOverImage}
+use Rattle.board.proofs.Flights.{same_tags}
 use Rattle.board.proofs.DiskSteps.{Comes, IsLooked, IsTold, Retakes, Stays, StepsTo, steps}
 use Rattle.hosted_disk.proofs.Looking.{KeepsTag, keeps_tag, landing_keeps, look_left, unless_left}
 use Rattle.board.specs.Waiting.{may_wait, waits_beside}
@@ -47,20 +50,26 @@ word_keeps found Release tag device on_hold q q' is other no_drop told =
     look_left (KeepsTag tag) (keeps_tag tag) device q q' told
 
 module _ {A : Type 0} (disk : SlotDisk) (old : SlotState) (tag : ℕ) (here : InFlight) (what : EventKind A) where
+  abbrev tag_in : Option HostedDisk → Option InFlight
+  tag_in host = get_or (tags_in host) tag None
+
   pub outlasts_by : (new : SlotState) → get_or (in_flight_of disk old) tag None ≡ Some here → LeavesTagOf disk tag what
       → StepsTo disk what old new → get_or (in_flight_of disk new) tag None ≡ Some here
-  outlasts_by new taken other (Stays tags on_hold) = ap (λ l. get_or l tag None) tags ∙ taken
-  outlasts_by new taken other (Retakes restores tags) = ap (λ l. get_or l tag None) tags ∙ taken
-  outlasts_by new taken other (Comes none free) =
-      let clash : None ≡ Some here = ap (λ l. get_or l tag None) (sym none) ∙ taken in absurd (cc clash)
-  outlasts_by new taken other (IsLooked device q q' looks from to on_hold) =
-      ap (λ l. get_or l tag None) to
-      ∙ unless_left (KeepsTag tag) (keeps_tag tag) (on_hold_of disk old) device q q' looks here
-      (ap (λ l. get_or l tag None) from ∙ taken)
-  outlasts_by new taken other (IsTold said is device q q' told from to on_hold) =
-      ap (λ l. get_or l tag None) to
-      ∙ word_keeps (said_of disk what) said tag device (on_hold_of disk old) q q' is other.other other.no_drop told here
-      (ap (λ l. get_or l tag None) from ∙ taken)
+  outlasts_by new taken other (Stays same) = ap tag_in same ∙ taken
+  outlasts_by new taken other (Retakes restores kept) =
+      ap (λ l. get_or l tag None) (same_tags (disk_for disk old) (disk_for disk new) kept) ∙ taken
+  outlasts_by new taken other (Comes none) =
+      let clash : None ≡ Some here = sym (ap tag_in none) ∙ taken in
+      absurd (cc clash)
+  outlasts_by new taken other (IsLooked d after m m' w w' looks from to) =
+      ap tag_in to
+      ∙ unless_left (KeepsTag tag) (keeps_tag tag) d.on_hold d.device (queue_of m w d) (queue_of m' w' after) looks.looks
+      here (sym (ap tag_in from) ∙ taken)
+  outlasts_by new taken other (IsTold said is d after m m' w w' told from to) =
+      ap tag_in to
+      ∙ word_keeps (said_of disk what) said tag d.device d.on_hold (queue_of m w d) (queue_of m' w' after) is other.other
+      other.no_drop told.queue here
+      (sym (ap tag_in from) ∙ taken)
 
   pub outlasts : (before after : Health) (outcome : Outcome A) → get_or (in_flight_of disk old) tag None ≡ Some here
       → LeavesTagOf disk tag what → MayGive old what before after outcome
@@ -103,7 +112,7 @@ waited_by old what before outcome (Says said tells says h) is =
     let done = ap (λ o. o.reply) h in absurd (cc)
 
 -- and the image has no part in it
-pub waited : {A : Type 0} (host : Option HostDisk) (old : SlotState) (what : EventKind A) (before after : Health)
+pub waited : {A : Type 0} (host : Option HostedDisk) (old : SlotState) (what : EventKind A) (before after : Health)
     (outcome : Outcome A) → MayGiveBy host old what before after outcome → outcome.reply ≡ Busy
     → Waited old what outcome × (after ≡ before)
 waited {A} host old what before after outcome h is =
@@ -152,7 +161,7 @@ rested_by old what before outcome (Rests said tells h) is = h
 rested_by old what before outcome (Says said tells says h) is =
     let done = ap (λ o. o.reply) h in absurd (cc)
 
-pub rested : {A : Type 0} (host : Option HostDisk) (old : SlotState) (what : EventKind A) (before after : Health)
+pub rested : {A : Type 0} (host : Option HostedDisk) (old : SlotState) (what : EventKind A) (before after : Health)
     (outcome : Outcome A) → MayGiveBy host old what before after outcome → outcome.reply ≡ Idle
     → (outcome ≡ replies old Idle) × (after ≡ before)
 rested host old what before after outcome h is =

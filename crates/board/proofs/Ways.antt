@@ -1,12 +1,14 @@
 -- What comes of an event of a guest whose disk the host serves, said apart.
 use Rattle.std.proofs.Common.{◌≡◌, Bool, true, false, Option, Some, None, refl}
 use Rattle.std.specs.Prelude.{◌&&◌}
+use Rattle.std.specs.Option.{option_map_or}
 use Rattle.board.specs.declared.event.EventKind.{EventKind}
 use Rattle.block_device.specs.declared.operation.HostEvent.{HostEvent}
 use Rattle.hosted_disk.specs.Told.{has_effect}
 use Rattle.board.specs.declared.reply.Reply.TheVariants.{Busy, Idle}
-use Rattle.board.specs.Backing.{HostDisk}
-use Rattle.board.specs.Hosting.{DoesAsHostSays, HostOrGives, LooksAtQueue, LooksOrGives, OwnGives, ToldGives, notifies_block, own_disk, told_in, waits_now}
+use Rattle.hosted_disk.specs.Disk.{HostedDisk}
+use Rattle.board.specs.Hosting.{HostOrGives, LooksAtQueue, LooksOrGives, OwnGives, ToldGives, notifies_block, told_in, waits_now}
+use Rattle.board.specs.Units.{DoesAsSaid, Own}
 use Rattle.board.specs.Image.{Health}
 use Rattle.board.specs.Machine.{readied}
 use Rattle.board.specs.Outcome.{Outcome, does, replies}
@@ -26,12 +28,12 @@ pub data Way {A : Type 0} (Beside : Outcome A → Type 0) (old : SlotState) (wha
       → outcome ≡ does outcome.state → Way Beside old what outcome
   Rests : (said : HostEvent) → told_in what ≡ Some said → outcome ≡ replies old Idle → Way Beside old what outcome
   Says :
-      (said : HostEvent) → told_in what ≡ Some said → DoesAsHostSays said old outcome.state
+      (said : HostEvent) → told_in what ≡ Some said → DoesAsSaid Own said old outcome.state
       → outcome ≡ does outcome.state → Way Beside old what outcome
 
 -- where there is something to do, the disk does it
 pub told_says : {A : Type 0} (effect : Bool) (said : HostEvent) (old : SlotState) (outcome : Outcome A) → effect ≡ true
-    → ToldGives effect said old outcome → DoesAsHostSays said old outcome.state
+    → ToldGives effect said old outcome → DoesAsSaid Own said old outcome.state
 told_says true said old outcome is h = h.0
 told_says false said old outcome is h = absurd (cc is)
 
@@ -61,13 +63,13 @@ module _ {A : Type 0} (Beside : Outcome A → Type 0) (old : SlotState) (what : 
   way_by : (found : Option HostEvent) → told_in what ≡ found → HostOrGives Beside found old what outcome
       → Way Beside old what outcome
   way_by None is h = own_way (waits_now what old.host) is refl h
-  way_by (Some said) is h = told_way (has_effect said (own_disk old)) said is h
+  way_by (Some said) is h = told_way (option_map_or (has_effect said) old.host false) said is h
 
   pub way : HostOrGives Beside (told_in what) old what outcome → Way Beside old what outcome
   way h = way_by (told_in what) refl h
 
 -- What comes of an event is what may over an image, or it comes in one of these ways, and the image stays.
-pub by_disk : {A : Type 0} {P : Type 0} (host : Option HostDisk) (old : SlotState) (what : EventKind A)
+pub by_disk : {A : Type 0} {P : Type 0} (host : Option HostedDisk) (old : SlotState) (what : EventKind A)
     (before after : Health) (outcome : Outcome A) → (MayGiveOverImage old what before after outcome → P)
     → (after ≡ before → Way (λ (o : Outcome A). MayGiveOverImage old what before before o) old what outcome → P)
     → MayGiveBy host old what before after outcome → P

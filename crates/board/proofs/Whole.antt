@@ -32,7 +32,7 @@ use Rattle.board.specs.declared.reply.Reply.TheVariants.{Done, Took, NoMemory}
 use Rattle.board.specs.Image.{Health, disk_with}
 use Rattle.board.specs.Machine.{action_at, readied, task_at, with_input, with_write}
 use Rattle.board.specs.Outcome.{Outcome}
-use Rattle.board.specs.Backing.{HostDisk}
+use Rattle.hosted_disk.specs.Disk.{HostedDisk}
 use Rattle.board.specs.Hosting.{has_part, is_block_task, notifies_block}
 use Rattle.board.specs.declared.pause.Pause.{Pause}
 use Rattle.board.specs.declared.pause.Service.{Service}
@@ -229,7 +229,7 @@ console_image pause stage budget old before after new output reply which is othe
     h.image
 
 -- what the disk has no part in comes to what it does over an image
-by_passing : {A : Type 0} (disk : HostDisk) (state : SlotState) (what : EventKind A) (before after : Health)
+by_passing : {A : Type 0} (disk : HostedDisk) (state : SlotState) (what : EventKind A) (before after : Health)
     (outcome : Outcome A) → has_part (Some disk) what state ≡ false → after ≡ before
     → MayGiveOverImage state what before after outcome → MayGiveBy (Some disk) state what before after outcome
 by_passing {A} disk state what before after outcome free image h = record {
@@ -246,7 +246,7 @@ no_image window action Receive state is = refl
 no_image window action Transmit state is = refl
 no_image window action (Further n q) state is = absurd (none_further window action n q is)
 
-hosted_write : {A : Type 0} (disk : HostDisk) (state : SlotState) (window : SlotWindow)
+hosted_write : {A : Type 0} (disk : HostedDisk) (state : SlotState) (window : SlotWindow)
     (offset width value : ℕ) (budget : Budget) (before after : Health) (new : SlotState) (output : List ℕ)
     (reply : Reply A) (task : Task) → task_at window offset width value state ≡ task
     → has_part {A = A} (Some disk) (Write window offset width value) state ≡ false
@@ -269,7 +269,7 @@ hosted_write disk state window offset width value budget before after new output
 hosted_write disk state window offset width value budget before after new output reply (PutOut byte) is free
     h = h
 
-hosted_device : {A : Type 0} (disk : HostDisk) (n : ℕ) (what : FurtherEvent A) (state : SlotState) (budget : Budget)
+hosted_device : {A : Type 0} (disk : HostedDisk) (n : ℕ) (what : FurtherEvent A) (state : SlotState) (budget : Budget)
     (before after : Health) (new : SlotState) (output : List ℕ) (reply : Reply A)
     → state.host ≡ Some disk → has_part (Some disk) (DeviceEvent n what) state ≡ false → (asks : Option Pause)
     → device_asks n what state ≡ asks
@@ -285,7 +285,7 @@ hosted_device disk n what state budget before after new output reply hosted free
     (served_hosted n a.queue (readied (DeviceEvent n what) state) disk hosted) h)
     (further_whole n what state pause budget before after new output reply asks h)
 
-hosted_whole : {A : Type 0} (disk : HostDisk) (what : EventKind A) (budget : Budget) (state : SlotState)
+hosted_whole : {A : Type 0} (disk : HostedDisk) (what : EventKind A) (budget : Budget) (state : SlotState)
     (before after : Health) (new : SlotState) (output : List ℕ) (reply : Reply A)
     → state.host ≡ Some disk → has_part (Some disk) what state ≡ false
     → TurnsTo (λ c. MayGiveBy (Some disk) state what before after c) (asked_over_image what state) what budget
@@ -303,7 +303,7 @@ hosted_whole disk (DeviceEvent n what) budget state before after new output repl
     hosted_device disk n what state budget before after new output reply hosted free (device_asks n what state) refl h
 hosted_whole disk _ budget state before after new output reply hosted free h = h
 
-whole_by : {A : Type 0} (host : Option HostDisk) (part : Bool) (what : EventKind A) (budget : Budget)
+whole_by : {A : Type 0} (host : Option HostedDisk) (part : Bool) (what : EventKind A) (budget : Budget)
     (state : SlotState) (before after : Health) (new : SlotState) (output : List ℕ) (reply : Reply A)
     → state.host ≡ host → has_part host what state ≡ part
     → TurnsTo (λ c. MayGiveBy host state what before after c)

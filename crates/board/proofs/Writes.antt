@@ -45,7 +45,8 @@ use Rattle.board.specs.declared.event.EventKind.TheVariants.{Write, MemRead, Mem
 use Rattle.board.specs.declared.event.EventKind.TheVariants as kind
 use Rattle.board.specs.declared.pause.Service.TheVariants as service
 use Rattle.board.specs.declared.reply.Reply.{Reply}
-use Rattle.board.specs.Hosting.{LooksAtQueue, hosted_device, own_disk}
+use Rattle.board.specs.Hosting.{LooksAtQueue}
+use Rattle.board.specs.Units.{unit_queue}
 use Rattle.board.specs.Image.{Health}
 use Rattle.board.specs.Marking.{IsForDevices}
 use Rattle.board.specs.Machine.{GivesOverImage, readied, task_at, with_write}
@@ -184,8 +185,8 @@ module _ (K : Memory → Memory → Type 0) (left : IsLeftByWrites K) where
 
   looks_left : (old new : SlotState) → LooksAtQueue old new → K old.memory new.memory
   looks_left old new h =
-      unless_left MemoryLeft memory_left old.on_hold (hosted_device old) (queue_of old.memory old.block (own_disk old))
-      (queue_of new.memory new.block h.disk) h.does.looks
+      unless_left MemoryLeft memory_left h.before.disk.on_hold h.before.disk.device (unit_queue old.memory h.before)
+      (unit_queue new.memory h.after) h.does.looks
 
   -- ---- an event
 
@@ -385,8 +386,8 @@ module _ (K : Memory → Memory → Type 0) (left : IsLeftByWrites K) where
       subst (λ (m : Memory). K m outcome.state.memory) (readied_memory what state)
       (looks_left (readied what state) outcome.state looks)
   on_host_left state what health outcome own (Says said is says h) =
-      told_queue_left said (hosted_device state) state.on_hold (queue_of state.memory state.block (own_disk state))
-      (queue_of outcome.state.memory outcome.state.block says.disk) says.does.queue
+      told_queue_left said says.before.disk.device says.before.disk.on_hold (unit_queue state.memory says.before)
+      (unit_queue outcome.state.memory says.after) says.does.queue
   on_host_left state what health outcome own (Waits waits h) = state_left state outcome _ h refl
   on_host_left state what health outcome own (Rests said is h) = state_left state outcome _ h refl
 

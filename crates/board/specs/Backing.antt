@@ -1,46 +1,48 @@
 -- A slot's own disk: sectors of the image, or a disk that the host serves.
-use Rattle.std.specs.Prelude.{◌≡◌, ℕ, ⊤, Bool, false, Option, Some, None, List, []}
+use Rattle.std.specs.Prelude.{◌≡◌, ℕ, ⊤, Bool, false, Option, Some, None, IfSome, IsSomeAnd, List, []}
+use Rattle.std.specs.Option.{option_map}
 use Rattle.guest_memory.specs.Memory.{Memory}
 use Rattle.mmio_window.specs.Window.{WindowState}
 use Rattle.block_device.specs.declared.device.BlockDevice.{BlockDevice}
 use Rattle.block_device.specs.declared.extent.Extent.{Extent}
-use Rattle.block_device.specs.Flights.{AreHeld, InFlight}
-use Rattle.hosted_disk.specs.Disk.{HostedDisk}
-
--- A disk that the host serves: how many sectors it has, and what is in flight. The tag of an operation is its place in the
--- list. The disk's bytes are the host's.
-pub record HostDisk : Type 0 where
-  pub sectors : ℕ
-  pub tags : List (Option InFlight)
+use Rattle.block_device.specs.Flights.{InFlight}
+use Rattle.hosted_disk.specs.Disk.{HoldsFlights, HostedDisk}
 
 -- what is in flight of a slot: nothing where its disk is of the image
-abbrev pub tags_in : Option HostDisk → List (Option InFlight)
+abbrev pub tags_in : Option HostedDisk → List (Option InFlight)
 tags_in None = []
 tags_in (Some disk) = disk.tags
 
--- the same disk with this in flight
-abbrev pub with_tags : List (Option InFlight) → Option HostDisk → Option HostDisk
-with_tags tags None = None
-with_tags tags (Some disk) = Some (record disk { tags = tags })
+-- and whether its disk is on hold: one of the image never is
+abbrev pub is_held : Option HostedDisk → Bool
+is_held None = false
+is_held (Some disk) = disk.on_hold
+
+-- a disk on hold, or not
+abbrev pub held_disk : Bool → HostedDisk → HostedDisk
+held_disk on_hold disk = record disk { on_hold = on_hold }
+
+-- the disk stays, but for whether it is on hold
+abbrev pub KeepsHost : Option HostedDisk → Option HostedDisk → Type 0
+KeepsHost old new = option_map (held_disk false) new ≡ option_map (held_disk false) old
 
 -- how many sectors a disk has, where those of the image are so many
-abbrev pub sectors_by : Option HostDisk → ℕ → ℕ
+abbrev pub sectors_by : Option HostedDisk → ℕ → ℕ
 sectors_by None of_image = of_image
-sectors_by (Some disk) of_image = disk.sectors
+sectors_by (Some disk) of_image = disk.device.extent.count
 
 -- which sectors the disk's driver knows: of one that the host serves they are all that there are
-abbrev pub device_extent : Option HostDisk → Extent → Extent
+abbrev pub device_extent : Option HostedDisk → Extent → Extent
 device_extent None extent = extent
-device_extent (Some disk) extent = record { start = 0; count = disk.sectors }
+device_extent (Some disk) extent = record { start = 0; count = disk.device.extent.count }
 
 -- ---- the disk as the board keeps it
 
--- What it has of the image, which is nothing where the host serves it; the disk that the host serves, if it does; whether no
--- further chain of that disk's queue is taken; whether it refuses writes; and its identity.
+-- What it has of the image, which is nothing where the host serves it; the disk that the host serves, if it does; whether it
+-- refuses writes; and its identity.
 pub record OwnDisk : Type 0 where
   pub extent : Extent
-  pub host : Option HostDisk
-  pub on_hold : Bool
+  pub host : Option HostedDisk
   pub read_only : Bool
   pub identity : List ℕ
 
@@ -56,34 +58,18 @@ own_device own = record {
 abbrev pub device_of_image : OwnDisk → BlockDevice
 device_of_image own = record { extent = own.extent; read_only = own.read_only; identity = own.identity }
 
--- the disk as one that the host serves
-abbrev pub as_hosted : OwnDisk → HostedDisk
-as_hosted own = record { device = own_device own; tags = tags_in own.host; on_hold = own.on_hold }
-
 -- What is in flight is held, in this memory and behind this window: nothing that the host is told lies outside the memory or
 -- the disk, and each chain lies between the next used entry and the next chain of the queue.
-abbrev pub HoldsOwn : Memory → WindowState → OwnDisk → Type 0
-HoldsOwn m w own =
-    AreHeld (sectors_by own.host own.extent.count) (record { memory = m; window = w; tags = tags_in own.host })
+abbrev pub HoldsHost : Memory → WindowState → Option HostedDisk → Type 0
+HoldsHost m w host = IfSome host (HoldsFlights m w)
 
--- ---- a disk that the host serves, in its place
-
-abbrev pub host_disk_of : HostedDisk → HostDisk
-host_disk_of disk = record { sectors = disk.device.extent.count; tags = disk.tags }
-
-abbrev pub holds_of : Option HostedDisk → Bool
-holds_of None = false
-holds_of (Some disk) = disk.on_hold
-
--- it is of the description that the slot's disk has
+-- a disk that the host serves is of the description that the slot's disk has
 abbrev pub IsServedAs : BlockDevice → Option HostedDisk → Type 0
 IsServedAs device None = ⊤
 IsServedAs device (Some disk) =
     disk.device ≡ record device { extent = record { start = 0; count = disk.device.extent.count } }
 
--- The disk does this as one that the host serves, and stands so then.
-pub record DoesHosted (Does : HostedDisk → Memory → Memory → WindowState → WindowState → HostedDisk → Type 0)
-    (m m' : Memory) (w w' : WindowState) (old new : OwnDisk) : Type 0 where
-  pub disk : HostedDisk
-  pub does : Does (as_hosted old) m m' w w' disk
-  pub is : new ≡ record old { host = Some (host_disk_of disk); on_hold = disk.on_hold }
+-- A disk that the host serves does this.
+abbrev pub DoesHosted : (HostedDisk → Memory → Memory → WindowState → WindowState → HostedDisk → Type 0) → Memory → Memory
+    → WindowState → WindowState → Option HostedDisk → Option HostedDisk → Type 0
+DoesHosted Does m m' w w' old new = IsSomeAnd old (λ disk. IsSomeAnd new (Does disk m m' w w'))

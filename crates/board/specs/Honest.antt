@@ -19,7 +19,8 @@ use Rattle.block_device.specs.Outcome.{Ends}
 use Rattle.block_device.specs.Request.{payload_of}
 use Rattle.board.specs.declared.event.EventKind.{EventKind}
 use Rattle.board.specs.declared.reply.Record.{Record}
-use Rattle.board.specs.HostedDisks.{DiskUnit, LeavesTagOf, SlotDisk, in_flight_of, unit_at, unit_queue}
+use Rattle.board.specs.HostedDisks.{LeavesTagOf}
+use Rattle.board.specs.Units.{DiskUnit, SlotDisk, in_flight_of, unit_at, unit_queue}
 use Rattle.board.specs.Line.{MayBeTold}
 use Rattle.board.specs.Slot.{SlotState}
 use Rattle.board.specs.Steps.{IsAnsweredBy}

@@ -17,7 +17,7 @@ use Rattle.device_list.specs.List.{image_at}
 use Rattle.board.specs.declared.event.DeviceEvent.{DeviceEvent}
 use Rattle.board.specs.declared.pause.Service.{Service}
 use Rattle.board.specs.declared.pause.Service.TheVariants.{Further}
-use Rattle.board.specs.Backing.{HostDisk}
+use Rattle.hosted_disk.specs.Disk.{HostedDisk}
 use Rattle.board.specs.Devices.{GivesDevice, IsUnmet, device_asks, devices_readied}
 use Rattle.board.specs.Image.{Health, disk_with}
 use Rattle.board.specs.Outcome.{Outcome, does}
@@ -25,7 +25,7 @@ use Rattle.board.specs.Slot.{BoardSlot, SlotState, state_of}
 
 -- The disk over the image that is to serve its queue, if it lies in so many spare sectors. A slot whose own disk the host
 -- serves has none.
-abbrev pub image_disk_of : Option HostDisk → ℕ → Option BlockDevice → Option BlockDevice
+abbrev pub image_disk_of : Option HostedDisk → ℕ → Option BlockDevice → Option BlockDevice
 image_disk_of (Some host) spare found = None
 image_disk_of None spare None = None
 image_disk_of None spare (Some disk) = if nat_le (disk.extent.start + disk.extent.count) spare then Some disk else None

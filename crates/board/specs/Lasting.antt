@@ -10,7 +10,8 @@ use Rattle.board.specs.declared.event.EventKind.{EventKind}
 use Rattle.block_device.specs.declared.operation.HostEvent.{HostEvent}
 use Rattle.block_device.specs.declared.operation.HostEvent.TheVariants.{Complete, Drop}
 use Rattle.board.specs.declared.reply.Record.{Record}
-use Rattle.board.specs.HostedDisks.{DoesAsSaid, SlotDisk, in_flight_of, said_of, unit_queue}
+use Rattle.board.specs.HostedDisks.{said_of}
+use Rattle.board.specs.Units.{DoesAsSaid, SlotDisk, in_flight_of, unit_queue}
 use Rattle.board.specs.Line.{MayBeTold, Move, events_of, own_events, own_records, records_of}
 use Rattle.board.specs.Slot.{SlotState}
 use Rattle.board.specs.Steps.{LeadTo}

@@ -2,6 +2,7 @@ pub use Rattle.guest_memory.specs.Memory
 pub use Rattle.mmio_window.specs.Window
 pub use Rattle.sector_cache.specs.Disk
 pub mod Backing
+pub mod Units
 pub mod Hosting
 pub mod HostedDisks
 pub mod Flights

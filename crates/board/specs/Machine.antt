@@ -3,7 +3,7 @@ use Rattle.std.specs.Prelude.{◌≡◌, ℕ, false, Option, Some, None, List}
 use Rattle.mmio_window.specs.Interrupts.{interrupt_bits}
 use Rattle.board.specs.declared.event.EventKind.{EventKind}
 use Rattle.board.specs.declared.reply.Record.{Record}
-use Rattle.board.specs.Backing.{HostDisk}
+use Rattle.hosted_disk.specs.Disk.{HostedDisk}
 use Rattle.board.specs.Hosting.{GivesOnHost}
 use Rattle.board.specs.Image.{Health}
 use Rattle.board.specs.Outcome.{Outcome}
@@ -13,7 +13,7 @@ use Rattle.board.specs.Steps.{IsAnsweredBy}
 
 -- What comes of an event where memory is found for it and no call of the image fails, by who has the guest's
 -- disk.
-abbrev pub GivesBy : {A : Type 0} → Option HostDisk → SlotState → EventKind A → Health → Health → Outcome A
+abbrev pub GivesBy : {A : Type 0} → Option HostedDisk → SlotState → EventKind A → Health → Health → Outcome A
     → Type 0
 GivesBy None state what before after outcome = GivesOverImage state what before after outcome
 GivesBy (Some disk) state what before after outcome =

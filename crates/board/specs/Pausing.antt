@@ -27,7 +27,7 @@ use Rattle.board.specs.declared.pause.Turn.TheVariants.{Answered, More}
 use Rattle.board.specs.declared.reply.Reply.{Reply}
 use Rattle.board.specs.declared.reply.Reply.TheVariants.{Done, Took, NoMemory}
 use Rattle.board.specs.Image.{Health, Tells, bytes_of, health_of, sectors_of, disk_with}
-use Rattle.board.specs.Backing.{HostDisk}
+use Rattle.hosted_disk.specs.Disk.{HostedDisk}
 use Rattle.board.specs.Devices.{device_asks}
 use Rattle.board.specs.Hosting.{has_part}
 use Rattle.board.specs.InPlace.{event_in}
@@ -222,7 +222,7 @@ Begins what budget old before after new output turn =
     TurnsTo (MayGive old what before after) (asked what old) what budget old before after new output turn
 
 -- whether the host has the disk that this service serves: such a service never pauses
-abbrev pub is_hosts : Option HostDisk → Service → Bool
+abbrev pub is_hosts : Option HostedDisk → Service → Bool
 is_hosts (Some disk) Block = true
 is_hosts host service = false
 

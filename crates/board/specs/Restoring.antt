@@ -18,7 +18,6 @@ slot_in state = record {
   extent = record { start = 0; count = sectors_of state.extent };
   spare = state.spare;
   host = state.host;
-  on_hold = state.on_hold;
   read_only = state.read_only;
   identity = state.identity;
   block = state.block;

@@ -1,6 +1,7 @@
 -- The snapshot of a slot, and what a slot becomes that takes one up.
 use Rattle.std.specs.Prelude.{◌≡◌, ◌≤◌, ◌++◌, ◌==◌, ℕ, true, All, IsSome, None, Option, Some, List, [], ◌∷◌, drop, if◌then◌else◌, length}
 use Rattle.std.specs.List.{AllZip}
+use Rattle.std.specs.Option.{option_map}
 use Rattle.guest_memory.specs.Memory.{Memory, SameRange}
 use Rattle.block_device.specs.Config.{block_features}
 use Rattle.mmio_window.specs.declared.device_kind.DeviceKind.TheVariants.{Block, Console}
@@ -16,6 +17,7 @@ use Rattle.snapshot.specs.Spelling.{IsSnapshot, snapshot}
 use Rattle.console_device.specs.Config.{console_features}
 use Rattle.board.specs.declared.saved.RestoreFault.{RestoreFault}
 use Rattle.board.specs.declared.saved.RestoreFault.TheVariants.{Snapshot, OtherSlot, BadDevice, BadBlock, BadConsole, BadDeviceWindow}
+use Rattle.board.specs.Backing.{held_disk, is_held}
 use Rattle.board.specs.Slot.{BoardSlot, sectors_in}
 
 -- ---- what is saved
@@ -32,7 +34,7 @@ saved_slot slot = record {
   console = saved_window slot.console;
   cols = slot.cols;
   rows = slot.rows;
-  on_hold = slot.on_hold;
+  on_hold = is_held slot.host;
   devices = record { items = saved_devices slot.devices };
 }
 
@@ -116,7 +118,7 @@ pub record TakesUp (old : BoardSlot) (saved : SavedSlot) (pending : List ℕ) (n
         pending = pending;
         cols = saved.cols;
         rows = saved.rows;
-        on_hold = saved.on_hold;
+        host = option_map (held_disk saved.on_hold) old.host;
         devices = new.devices;
       }
 
@@ -175,7 +177,7 @@ pub record IsLike (slot other : BoardSlot) : Type 0 where
   pub read_only : other.read_only ≡ slot.read_only
   pub identity : other.identity ≡ slot.identity
   pub devices : AllZip IsLikeDevice slot.devices other.devices
-  pub on_hold : slot.on_hold ≡ true → IsSome other.host
+  pub on_hold : is_held slot.host ≡ true → IsSome other.host
 
 -- the second devices, each with the window of the first one in its place
 abbrev pub with_windows_of : List DeviceState → List DeviceState → List DeviceState
@@ -183,8 +185,8 @@ with_windows_of [] es = es
 with_windows_of (d ∷ ds) [] = []
 with_windows_of (d ∷ ds) (e ∷ es) = record e { window = d.window } ∷ with_windows_of ds es
 
--- the slot is as that one was, but for the memory's bytes, who has its disk and where it lies, what waits in its further
--- devices, and whether an event of it has met a refusal: those are its own
+-- the slot is as that one was, but for the memory's bytes, who has its disk, where it lies and what is in flight of it, what
+-- waits in its further devices, and whether an event of it has met a refusal: those are its own
 abbrev pub IsAs : BoardSlot → BoardSlot → BoardSlot → Type 0
 IsAs slot old new =
     new
@@ -192,7 +194,7 @@ IsAs slot old new =
       memory = old.memory;
       extent = old.extent;
       spare = old.spare;
-      host = old.host;
+      host = option_map (held_disk (is_held slot.host)) old.host;
       devices = with_windows_of slot.devices old.devices;
       disturbed = old.disturbed;
     }

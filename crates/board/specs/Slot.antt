@@ -1,5 +1,5 @@
 -- A slot: what its guest can see, and what the board keeps of it.
-use Rattle.std.specs.Prelude.{◌≡◌, ℕ, ◌+◌, ◌||◌, Bool, false, nat_lt, List, [], length, ◌≤◌, Option, Some, None, replicate, slice_set}
+use Rattle.std.specs.Prelude.{◌≡◌, ℕ, ◌+◌, ◌||◌, Bool, false, nat_lt, List, [], length, ◌≤◌, Option, Some, None, slice_set}
 use Rattle.std.specs.List.{slice_get}
 use Rattle.guest_memory.specs.Faults.{zeroed_regions}
 use Rattle.guest_memory.specs.Memory.{Memory, SameRange}
@@ -18,16 +18,16 @@ use Rattle.block_device.specs.Config.{block_features}
 use Rattle.block_device.specs.Extent.{SameOutside, StaysInExtent}
 use Rattle.block_device.specs.Tags.{is_any}
 use Rattle.console_device.specs.Config.{console_features}
+use Rattle.hosted_disk.specs.Disk.{HostedDisk, fresh_disk}
 use Rattle.board.specs.declared.spec.Backing.{Backing}
 use Rattle.board.specs.declared.spec.Backing.TheVariants.{Image, Host}
 use Rattle.board.specs.declared.spec.SlotSpec.{SlotSpec}
-use Rattle.board.specs.Backing.{HostDisk, OwnDisk, sectors_by, tags_in}
+use Rattle.board.specs.Backing.{OwnDisk, sectors_by, tags_in}
 use Rattle.board.specs.Image.{sectors_of}
 
 -- All that one guest can see: its memory, the bytes of its extent of the image, the spare sectors behind that, which its
 -- further disks over the image have, how many there are and their bytes, the disk that the host
--- serves it in place of one of the image, whether that disk is on hold, so that no further chain of its queue is
--- taken, whether its block device refuses writes and what its identity is,
+-- serves it in place of one of the image, whether its block device refuses writes and what its identity is,
 -- the windows of its two devices, and of its console what was typed and is still pending, and the size, and its
 -- further devices. Where the host serves its disk the extent is empty: the bytes are the host's.
 pub record SlotState : Type 0 where
@@ -35,8 +35,7 @@ pub record SlotState : Type 0 where
   pub extent : List ℕ
   pub spare : ℕ
   pub spare_bytes : List ℕ
-  pub host : Option HostDisk
-  pub on_hold : Bool
+  pub host : Option HostedDisk
   pub read_only : Bool
   pub identity : List ℕ
   pub block : WindowState
@@ -52,8 +51,7 @@ pub record BoardSlot : Type 0 where
   pub memory : Memory
   pub extent : Extent
   pub spare : ℕ
-  pub host : Option HostDisk
-  pub on_hold : Bool
+  pub host : Option HostedDisk
   pub read_only : Bool
   pub identity : List ℕ
   pub block : WindowState
@@ -79,7 +77,6 @@ state_of bytes slot = record {
   spare = slot.spare;
   spare_bytes = extent_of bytes (spare_start slot) slot.spare;
   host = slot.host;
-  on_hold = slot.on_hold;
   read_only = slot.read_only;
   identity = slot.identity;
   block = slot.block;
@@ -175,16 +172,15 @@ spare_by Image spare = spare
 spare_by (Host depth) spare = 0
 
 -- the disk that the host serves it, which has as many sectors as the extent counts, with every tag free
-abbrev pub host_by : Backing → Extent → Option HostDisk
-host_by Image extent = None
-host_by (Host depth) extent = Some (record { sectors = extent.count; tags = replicate depth None })
+abbrev pub host_by : Backing → SlotSpec → Option HostedDisk
+host_by Image spec = None
+host_by (Host depth) spec = Some (fresh_disk spec.extent.count spec.read_only spec.identity depth)
 
 -- its own disk, as it is opened
 abbrev pub opened_disk : SlotSpec → OwnDisk
 opened_disk spec = record {
   extent = extent_by spec.backing spec.extent;
-  host = host_by spec.backing spec.extent;
-  on_hold = false;
+  host = host_by spec.backing spec;
   read_only = spec.read_only;
   identity = spec.identity;
 }
@@ -196,8 +192,7 @@ opened spec = record {
   memory = zeroed_regions spec.regions;
   extent = extent_by spec.backing spec.extent;
   spare = spare_by spec.backing spec.spare;
-  host = host_by spec.backing spec.extent;
-  on_hold = false;
+  host = host_by spec.backing spec;
   read_only = spec.read_only;
   identity = spec.identity;
   block = fresh_window Block (block_features spec.read_only) 0;

@@ -1,6 +1,7 @@
 -- The whole board as it can be seen from outside, and what one event may do to it.
 use Rattle.std.specs.Prelude.{◌≡◌, ◌≢◌, ◌⊎◌, ℕ, ◌<◌, ◌≤◌, ◌||◌, Bool, true, false, nat_lt, if◌then◌else◌, IsTrue, ⊤, Option, Some, None, List, [], ◌++◌, map, slice_set, IsSomeAnd, MatchOption}
 use Rattle.std.specs.List.{slice_get}
+use Rattle.std.specs.Option.{option_map_or}
 use Rattle.guest_memory.specs.Memory.{Inside, Memory, is_inside}
 use Rattle.chain.specs.Service.{Site, Refused, IsRefusedService}
 use Rattle.mmio_window.specs.declared.queue.Queue.{Queue}
@@ -18,7 +19,7 @@ use Rattle.board.specs.declared.reply.Reply.{Reply}
 use Rattle.board.specs.declared.reply.Reply.TheVariants.{BadSlot, NoMemory}
 use Rattle.board.specs.declared.reply.Record.{Record}
 use Rattle.board.specs.declared.pause.Service.TheVariants.{Block, Receive, Transmit, Further}
-use Rattle.board.specs.Backing.{HostDisk}
+use Rattle.hosted_disk.specs.Disk.{HostedDisk}
 use Rattle.board.specs.Devices.{TakesMemoryFor}
 use Rattle.board.specs.Extent.{outside_of}
 use Rattle.board.specs.Hosting.{GivesOnHost}
@@ -52,7 +53,7 @@ disturbed_of slots = map (λ slot. slot.disturbed) slots
 
 -- what each slot's guest is given by GET_ID
 abbrev pub identities_of : List SlotState → List (List ℕ)
-identities_of slots = map (λ slot. slot.identity) slots
+identities_of slots = map (λ slot. option_map_or (λ disk. disk.device.identity) slot.host slot.identity) slots
 
 -- what can be seen of slots over an image
 abbrev pub seen : List BoardSlot → Disk → World
@@ -140,7 +141,7 @@ MayGiveOverImage state what old new outcome =
     IsServed state what old new outcome ⊎ IsRefused state what old new outcome
 
 -- and what may come of one by who has the guest's disk
-abbrev pub MayGiveBy : {A : Type 0} → Option HostDisk → SlotState → EventKind A → Health → Health → Outcome A
+abbrev pub MayGiveBy : {A : Type 0} → Option HostedDisk → SlotState → EventKind A → Health → Health → Outcome A
     → Type 0
 MayGiveBy None state what old new outcome = MayGiveOverImage state what old new outcome
 MayGiveBy (Some disk) state what old new outcome =

@@ -1,13 +1,13 @@
 //! A slot's own disk: sectors of the image, or a disk that the host serves.
 
-ghost use Rattle.std.specs.Prelude.{◌≡◌, ◌&&◌, true, false, None, IfOk, IsSome, is_some};
+ghost use Rattle.std.specs.Prelude.{◌≡◌, false, None, IfOk, IsSome};
 ghost use Rattle.std.specs.Bool.{OnTrue, OnFalse};
-ghost use Rattle.std.specs.Option.{option_map};
+ghost use Rattle.std.specs.Option.{option_map, option_map_or};
 ghost use Rattle.guest_memory.specs.Memory.{SameRange};
 ghost use Rattle.mmio_window.specs.Soundness.{IsSound};
 ghost use Rattle.hosted_disk.specs.Disk.{LooksAtQueue};
 ghost use Rattle.hosted_disk.specs.Told.{DoesAsTold, has_effect};
-ghost use Rattle.board.specs.Backing.{DoesHosted, HoldsOwn, as_hosted, device_of_image, own_device};
+ghost use Rattle.board.specs.Backing.{DoesHosted, HoldsHost, KeepsHost, device_of_image, held_disk, own_device};
 ghost use Rattle.board.specs.Fault.{HasRoom};
 ghost use Rattle.board.specs.Slot.{opened_disk};
 
@@ -32,14 +32,13 @@ pub(crate) struct OwnDisk<A: Allocator = Global> {
 
 impl<A: Allocator> Model for OwnDisk<A> {
     ghost use Rattle.std.specs.Option.{option_map};
-    ghost use Rattle.board.specs.Backing.{IsServedAs, OwnDisk, holds_of, host_disk_of};
+    ghost use Rattle.board.specs.Backing.{IsServedAs, OwnDisk};
 
     ghost Value = { OwnDisk };
 
     ghost view = { λ d. record {
       extent = d.device.extent;
-      host = option_map (λ disk. host_disk_of disk.value) d.host;
-      on_hold = holds_of (option_map (λ disk. disk.value) d.host);
+      host = option_map (λ disk. disk.value) d.host;
       read_only = d.device.read_only;
       identity = d.device.identity;
     } };
@@ -91,8 +90,7 @@ impl<A: Allocator> OwnDisk<A> {
     /// The disk that the host serves, if it does.
     #[inline(always)]
     pub(crate) fn host(&self) -> Option<&HostedDisk<A>>
-        ensures value { option_map (λ disk. disk.now) result ≡ option_map (λ host. as_hosted self.now) self.now.host }
-        ensures on_hold { result ≡ None → self.now.on_hold ≡ false }
+        ensures { option_map (λ disk. disk.now) result ≡ self.now.host }
     {
         match &self.host {
             Some(disk) => Some(&**disk),
@@ -102,8 +100,8 @@ impl<A: Allocator> OwnDisk<A> {
 
     /// Has no further chain of a disk that the host serves taken, or has them taken again. The queue isn't looked at.
     pub(crate) fn set_on_hold(&mut self, on_hold: bool)
-        requires { on_hold ≡ true → IsSome self.old.host }
-        ensures { self.new ≡ record self.old { on_hold = on_hold } }
+        ensures value { self.new ≡ record self.old { host = option_map (held_disk on_hold) self.old.host } }
+        ensures keeps { KeepsHost self.old.host self.new.host }
     {
         if let Some(disk) = &mut self.host {
             disk.set_on_hold(on_hold);
@@ -119,14 +117,14 @@ impl<A: Allocator> OwnDisk<A> {
         room: &mut Chain,
     )
         requires sound { IsSound memory.old window.old }
-        requires held { HoldsOwn memory.old window.old self.old }
+        requires held { HoldsHost memory.old window.old self.old.host }
         ensures looks { IsSome self.old.host →
-            DoesHosted LooksAtQueue memory.old memory.new window.old window.new self.old self.new }
+            DoesHosted LooksAtQueue memory.old memory.new window.old window.new self.old.host self.new.host }
         ensures kept { self.old.host ≡ None → (memory.new ≡ memory.old) × ((window.new ≡ window.old) × (self.new ≡ self.old)) }
         ensures rest { self.new ≡ record self.old { host = self.new.host } }
         ensures range { SameRange memory.old memory.new }
         ensures sound { IsSound memory.new window.new }
-        ensures held { HoldsOwn memory.new window.new self.new }
+        ensures held { HoldsHost memory.new window.new self.new.host }
     {
         let Some(disk) = &mut self.host else {
             return;
@@ -144,15 +142,15 @@ impl<A: Allocator> OwnDisk<A> {
         room: &mut Chain,
     ) -> bool
         requires sound { IsSound memory.old window.old }
-        requires held { HoldsOwn memory.old window.old self.old }
-        ensures found { result ≡ (is_some self.old.host && has_effect said (as_hosted self.old)) }
+        requires held { HoldsHost memory.old window.old self.old.host }
+        ensures found { result ≡ option_map_or (has_effect said) self.old.host false }
         ensures does { OnTrue result
-            (DoesHosted (DoesAsTold said) memory.old memory.new window.old window.new self.old self.new) }
+            (DoesHosted (DoesAsTold said) memory.old memory.new window.old window.new self.old.host self.new.host) }
         ensures kept { OnFalse result ((memory.new ≡ memory.old) × ((window.new ≡ window.old) × (self.new ≡ self.old))) }
-        ensures rest { self.new ≡ record self.old { host = self.new.host; on_hold = self.new.on_hold } }
+        ensures rest { self.new ≡ record self.old { host = self.new.host } }
         ensures range { SameRange memory.old memory.new }
         ensures sound { IsSound memory.new window.new }
-        ensures held { HoldsOwn memory.new window.new self.new }
+        ensures held { HoldsHost memory.new window.new self.new.host }
     {
         let Some(disk) = &mut self.host else {
             return false;

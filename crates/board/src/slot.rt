@@ -10,6 +10,7 @@ ghost use Rattle.guest_memory.specs.Faults.{AreGood as AreGoodRegions};
 ghost use Rattle.guest_memory.specs.Pages.{bits_of};
 ghost use Rattle.guest_memory.specs.Memory.{Inside, IsRest};
 ghost use Rattle.block_device.specs.Extent.{IsWithin, TouchesExtent};
+ghost use Rattle.board.specs.Backing.{KeepsHost};
 ghost use Rattle.board.specs.Lending.{LendsBytes, with_page_bits};
 ghost use Rattle.board.specs.Pausing.{BeginsOverImage, PausesByLimit, ServesOver, lacks_memory_in};
 ghost use Rattle.board.specs.Slot.{AreInterruptWords, IsUnnoted, interrupt_words, opened, state_of, whole_extent};
@@ -78,7 +79,6 @@ impl<A: Allocator> Model for Slot<A> {
       extent = s.disk.extent;
       spare = s.spare;
       host = s.disk.host;
-      on_hold = s.disk.on_hold;
       read_only = s.disk.read_only;
       identity = s.disk.identity;
       block = s.block;
@@ -177,7 +177,7 @@ impl<A: Allocator + Copy> Slot<A> {
             (I.disk cache.old) (I.disk cache.new) (O.bytes out.old) (O.bytes out.new) result.turn }
         ensures limit { O.limit out.new ≡ O.limit out.old }
         ensures unnoted { IsUnnoted self.old self.new (I.disk cache.old) (I.disk cache.new) result.failed }
-        ensures host { self.new.host ≡ self.old.host }
+        ensures host { KeepsHost self.old.host self.new.host }
         ensures touches { TouchesExtent I.moment I.may_leave I.left_since (whole_extent self.old) cache.old cache.new }
         ensures limited { PausesByLimit budget result.turn }
         ensures there { result.turn ≢ Turn.Answered Reply.BadSlot }

@@ -11,7 +11,7 @@ use Rattle.c_values.specs.declared.operation.Run.{Run}
 use Rattle.c_values.specs.Operation.{told_operation, told_runs}
 use Rattle.hosted_disk.specs.Disk.{HostedDisk}
 use Rattle.board.specs.declared.slot_disk.SlotDisk.{SlotDisk}
-use Rattle.board.specs.HostedDisks.{disk_in}
+use Rattle.board.specs.Units.{disk_in}
 use Rattle.board.specs.Slot.{BoardSlot}
 use Rattle.session.specs.Operations.{hosted_disk_at, in_flight_at}
 use Rattle.session.specs.Session.{SessionState}

@@ -20,7 +20,8 @@ use Rattle.board.specs.declared.event.DeviceEvent.TheVariants.{Receive, Supply}
 use Rattle.board.specs.declared.reply.Reply.{Reply}
 use Rattle.board.specs.declared.reply.Reply.TheVariants.{BadRange, BadSlot, Bytes, Done, NoMemory, Value}
 use Rattle.board.specs.declared.reply.Record.{Record}
-use Rattle.board.specs.Backing.{HostDisk, tags_in}
+use Rattle.hosted_disk.specs.Disk.{HostedDisk}
+use Rattle.board.specs.Backing.{tags_in}
 use Rattle.board.specs.Hosting.{has_part, must_wait, notifies_block, tag_in, told_in}
 use Rattle.board.specs.Image.{Tells, bytes_of, health_of}
 use Rattle.board.specs.Line.{Move}
@@ -75,7 +76,7 @@ past_slots board slot past =
 
 -- An event that is no completion, never waits, and notifies nobody: what comes of it over an image comes of it
 -- whoever has the disk.
-no_part : {A : Type 0} (host : Option HostDisk) (what : EventKind A) (state : SlotState)
+no_part : {A : Type 0} (host : Option HostedDisk) (what : EventKind A) (state : SlotState)
     → told_in what ≡ None → must_wait what ≡ false → notifies_block what state ≡ false
     → has_part host what state ≡ false
 no_part None what state own free still = refl

@@ -18,7 +18,8 @@ use Rattle.board.specs.declared.pause.Turn.TheVariants as turn
 use Rattle.board.specs.declared.reply.Reply.TheVariants as reply
 use Rattle.block_device.specs.declared.device.BlockDevice.{BlockDevice}
 use Rattle.block_device.specs.Tags.{taken_bits}
-use Rattle.board.specs.Backing.{HostDisk, tags_in}
+use Rattle.hosted_disk.specs.Disk.{HostedDisk}
+use Rattle.board.specs.Backing.{tags_in}
 use Rattle.board.specs.declared.slot_disk.SlotDisk.TheVariants.{Own}
 use Rattle.board.specs.Image.{Health}
 use Rattle.board.specs.ImageDisks.{image_served}
@@ -86,7 +87,7 @@ paused_host {A} (Some asks) what budget old before after new output pause h =
 
 -- ---- what is said of a slot by who has its disk, and what is in flight
 
-module _ {X : Type 0} (f : Option HostDisk → Option X) where
+module _ {X : Type 0} (f : Option HostedDisk → Option X) where
   abbrev pub said_at : ℕ → List BoardSlot → Option X
   said_at slot slots = option_and_then (λ (found : BoardSlot). f found.host) (slice_get slots slot)
 
@@ -143,7 +144,7 @@ module _ {X : Type 0} (f : Option HostDisk → Option X) where
   going_on_keeps old new slot response o comes = ap (λ (s : SessionState). said_at slot s.slots) comes.1
 
 -- the tags that are in flight
-abbrev taken_of : Option HostDisk → Option ℕ
+abbrev taken_of : Option HostedDisk → Option ℕ
 taken_of host = Some (taken_bits (tags_in host))
 
 taken_said : (o : Option BoardSlot) → option_map (λ (found : BoardSlot). taken_bits (tags_in found.host)) o

@@ -24,7 +24,7 @@ use Rattle.board.specs.declared.reply.Record.{Record}
 use Rattle.board.specs.declared.reply.Reply.{Reply}
 use Rattle.board.specs.declared.reply.Reply.TheVariants.{Value, Done, Bytes, Took, BadSlot, BadDevice, NoMemory}
 use Rattle.board.specs.declared.reply.Reply.TheVariants as told
-use Rattle.board.specs.Backing.{HostDisk, tags_in}
+use Rattle.board.specs.Backing.{tags_in}
 use Rattle.board.specs.Devices.{GivesByDevice, MayReplyDevice, TakesMemoryFor, can_plug, device_asks, device_reply, further_service, has_effect_at, received_reply, reply_at, told_reply, waits_for_disk, waits_there}
 use Rattle.board.specs.declared.slot_disk.SlotDisk.{SlotDisk}
 use Rattle.board.specs.declared.slot_disk.SlotDisk.TheVariants.{Further, Own}
@@ -148,7 +148,7 @@ module _ {A : Type 0} (n : ℕ) (what : DeviceEvent A) (state : SlotState) where
   beside Beside outcome true h = h
   beside Beside outcome false h = h
 
-  over_image : (host : Option HostDisk) (before after : Health) (outcome : Outcome A)
+  over_image : (host : Option HostedDisk) (before after : Health) (outcome : Outcome A)
       → MayGiveBy host state (Device n what) before after outcome
       → (later : Health) × MayGiveOverImage state (Device n what) before later outcome
   over_image None before after outcome h = (after, h)

@@ -1,8 +1,8 @@
 -- When each refusal of a call comes.
-use Rattle.std.proofs.Common.{◌≡◌, ◌⊎◌, ◌↔◌, inl, inr, ℕ, ◌<◌, ◌≤◌, Bool, true, false, List, length, get_or, Option, Some, None, refl, sym, ◌∙◌, ap, subst, arith}
-use Rattle.std.specs.Prelude.{◌&&◌, ◌||◌, is_some, nat_lt, not, if◌then◌else◌, IsErrOf, IsSomeAnd, Result, Ok, Err}
+use Rattle.std.proofs.Common.{◌≡◌, ◌⊎◌, ◌↔◌, inl, inr, ℕ, ◌<◌, ◌≤◌, Bool, true, false, List, length, Option, Some, None, refl, sym, ◌∙◌, ap, subst, arith}
+use Rattle.std.specs.Prelude.{◌&&◌, ◌||◌, is_some, nat_lt, if◌then◌else◌, IsErrOf, IsSomeAnd, Result, Ok, Err}
 use Rattle.std.specs.List.{slice_get}
-use Rattle.std.specs.Option.{option_and_then}
+use Rattle.std.specs.Option.{option_and_then, option_map_or}
 use Rattle.std.proofs.lemmas.Bool.Decides.{nat_tests}
 use Rattle.std.proofs.lemmas.Option.{slice_get_cases, slice_get_within, same_Some}
 use Rattle.guest_memory.specs.Memory.{Inside}
@@ -10,18 +10,17 @@ use Rattle.board.specs.declared.event.Event.{Event}
 use Rattle.board.specs.declared.event.EventKind.{EventKind}
 use Rattle.board.specs.declared.event.EventKind.TheVariants.{Device, Host, Restore}
 use Rattle.block_device.specs.declared.operation.HostEvent.{HostEvent}
-use Rattle.block_device.specs.declared.operation.HostEvent.TheVariants.{Complete, Drop, Hold, Release}
 use Rattle.board.specs.declared.pause.Pause.{Pause}
 use Rattle.board.specs.declared.pause.Turn.{Turn}
 use Rattle.board.specs.declared.pause.Turn.TheVariants as turn
 use Rattle.board.specs.declared.reply.Reply.{Reply}
 use Rattle.board.specs.declared.reply.Reply.TheVariants as reply
 use Rattle.board.specs.declared.reply.Record.{Record}
-use Rattle.block_device.specs.Flights.{InFlight}
 use Rattle.block_device.specs.Tags.{is_any}
 use Rattle.hosted_disk.specs.Told.{has_effect}
-use Rattle.board.specs.Backing.{HostDisk, tags_in}
-use Rattle.board.specs.Hosting.{HostGives, HostOrGives, OwnGives, ToldGives, has_part, must_wait, own_disk, told_in, waits_now}
+use Rattle.hosted_disk.specs.Disk.{HostedDisk}
+use Rattle.board.specs.Backing.{tags_in}
+use Rattle.board.specs.Hosting.{HostOrGives, OwnGives, ToldGives, has_part, must_wait, told_in, waits_now}
 use Rattle.board.specs.Image.{Health}
 use Rattle.board.specs.Outcome.{Outcome, replies}
 use Rattle.board.specs.Pausing.{Begins, asked, asked_over_image}
@@ -78,7 +77,7 @@ waits_gives {A} Beside state what outcome None own holds h =
 waits_gives Beside state what outcome (Some said) is holds h =
     absurd (said_free said what is (both_true (is_any (tags_in state.host)) (must_wait what) holds).1)
 
-own_waits_by : {A : Type 0} (host : Option HostDisk) (state : SlotState) (what : EventKind A) (old new : Health)
+own_waits_by : {A : Type 0} (host : Option HostedDisk) (state : SlotState) (what : EventKind A) (old new : Health)
     (outcome : Outcome A) → state.host ≡ host → waits_now what state.host ≡ true
     → MayGiveBy host state what old new outcome → outcome.reply ≡ reply.Busy
 own_waits_by {A} None state what old new outcome is holds h =
@@ -111,14 +110,14 @@ beside_own {A} state (Device n what) old outcome free waits h =
     (Device n what) outcome) free h)
 beside_own state _ old outcome free waits h = absurd (cc (waits))
 
-beside_waits_by : {A : Type 0} (host : Option HostDisk) (state : SlotState) (what : EventKind A) (old new : Health)
+beside_waits_by : {A : Type 0} (host : Option HostedDisk) (state : SlotState) (what : EventKind A) (old new : Health)
     (outcome : Outcome A) → waits_now what state.host ≡ false → waits_beside what state ≡ true
     → MayGiveBy host state what old new outcome → outcome.reply ≡ reply.Busy
 beside_waits_by None state what old new outcome free waits h = beside_gives state what old new outcome waits h
 beside_waits_by (Some disk) state what old new outcome free waits h =
     beside_own state what old outcome free waits h.gives
 
-waits_by : {A : Type 0} (host : Option HostDisk) (state : SlotState) (what : EventKind A) (old new : Health)
+waits_by : {A : Type 0} (host : Option HostedDisk) (state : SlotState) (what : EventKind A) (old new : Health)
     (outcome : Outcome A) → state.host ≡ host → waits_for_any what state ≡ true
     → MayGiveBy host state what old new outcome → outcome.reply ≡ reply.Busy
 waits_by host state what old new outcome is holds h = by_own (waits_now what state.host) refl holds
@@ -129,7 +128,7 @@ waits_by host state what old new outcome is holds h = by_own (waits_now what sta
     by_own false free beside = beside_waits_by host state what old new outcome free beside h
 
 -- and so no service of it begins
-held_part : {A : Type 0} (host : Option HostDisk) (state : SlotState) (what : EventKind A)
+held_part : {A : Type 0} (host : Option HostedDisk) (state : SlotState) (what : EventKind A)
     → state.host ≡ host → waits_now what state.host ≡ true → has_part host what state ≡ true
 held_part {A} None state what is holds =
     let none : waits_now {A = A} what None ≡ true = ap (waits_now what) (sym is) ∙ holds in absurd (cc (none))
@@ -170,53 +169,16 @@ module _ {A : Type 0} (state : SlotState) (outcome : Outcome A) where
   is_done : outcome.reply ≡ reply.Done → {P : Type 0} → (P → ⊥) → Rests ↔ P
   is_done done never = (λ is. absurd (cc (done, is)), λ p. absurd (never p))
 
-  -- of a disk that the host serves
-  module _ (disk : HostDisk) (here : state.host ≡ Some disk) where
-    no_image : state.host ≡ None → ⊥
-    no_image none = cc (here, none)
+  told_rests : (effect : Bool) (said : HostEvent) → ToldGives effect said state outcome → Rests ↔ (effect ≡ false)
+  told_rests false said h = idles h refl
+  told_rests true said h = is_done (ap (λ (o : Outcome A). o.reply) h.1) (λ none. absurd (cc none))
 
-    not_there : (flight : Option InFlight) → (is_some flight ≡ false) ↔ (flight ≡ None)
-    not_there None = (λ none. refl, λ none. refl)
-    not_there (Some found) = (λ none. absurd (cc none), λ none. absurd (cc none))
-
-    is_held : (on_hold : Bool) → (not on_hold ≡ false) ↔ ((state.host ≡ None) ⊎ (on_hold ≡ true))
-    is_held true = (λ held. inr refl, λ either. refl)
-    is_held false =
-        (λ held. absurd (cc held), λ either. elim either [ inl none ↦ absurd (no_image none) | inr on ↦ absurd (cc on) ])
-
-    is_free : (on_hold : Bool) → (on_hold ≡ false) ↔ ((state.host ≡ None) ⊎ (on_hold ≡ false))
-    is_free on_hold =
-        (λ free. inr free, λ either. elim either [ inl none ↦ absurd (no_image none) | inr free ↦ free ])
-
-    without_effect : (said : HostEvent)
-        → (has_effect said (own_disk state) ≡ false) ↔ IsSpare said state.host state.on_hold
-    without_effect (Complete tag verdict) = not_there (get_or (tags_in state.host) tag None)
-    without_effect Drop = (λ none. none, λ none. none)
-    without_effect Hold = is_held state.on_hold
-    without_effect Release = is_free state.on_hold
-
-    told_rests : (effect : Bool) (said : HostEvent) → ToldGives effect said state outcome → Rests ↔ (effect ≡ false)
-    told_rests false said h = idles h refl
-    told_rests true said h = is_done (ap (λ (o : Outcome A). o.reply) h.1) (λ none. absurd (cc none))
-
-    said_rests : (said : HostEvent) → HostGives said state outcome → Rests ↔ IsSpare said state.host state.on_hold
-    said_rests said h =
-        let rests = told_rests (has_effect said (own_disk state)) said h in
-        let spare = without_effect said in
-        (λ idle. spare.0 (rests.0 idle), λ is. rests.1 (spare.1 is))
-
-  -- over an image there never is anything
-  over_image : (said : HostEvent) → state.host ≡ None → IsSpare said state.host state.on_hold
-  over_image (Complete tag verdict) is = ap (λ (host : Option HostDisk). get_or (tags_in host) tag None) is
-  over_image Drop is = ap (λ (host : Option HostDisk). is_any (tags_in host)) is
-  over_image Hold is = inl is
-  over_image Release is = inl is
-
-  pub rests_by : (host : Option HostDisk) (said : HostEvent) (old new : Health) → state.host ≡ host
-      → MayGiveBy host state (Host said) old new outcome → Rests ↔ IsSpare said state.host state.on_hold
-  rests_by None said old new is (inl served) = idles served.alike.alike (over_image said is)
+  pub rests_by : (host : Option HostedDisk) (said : HostEvent) (old new : Health) → state.host ≡ host
+      → MayGiveBy host state (Host said) old new outcome → Rests ↔ IsSpare said state.host
+  rests_by None said old new is (inl served) =
+      idles served.alike.alike (ap (λ (host : Option HostedDisk). option_map_or (has_effect said) host false) is)
   rests_by None said old new is (inr never) = absurd never
-  rests_by (Some disk) said old new is h = said_rests disk is said h.gives
+  rests_by (Some disk) said old new is h = told_rests (option_map_or (has_effect said) state.host false) said h.gives
 
 -- ---- the refusal that a response says
 

@@ -90,7 +90,7 @@ own_idle : {A : Type 0} (old new : SessionState) (slot : ℕ) (said : HostEvent)
     → IsErrOf r refusal.Idle ↔ (IsIdle slot old × HasNothing slot Own said old.slots)
 own_idle {A} old new slot said response r means many call =
     refused_when served_response response r refusal.Idle (served_pure A) means
-    (said_call old new slot (Host said) many refusal.Idle (λ one. IsSpare said one.host one.on_hold) (λ one spare. refl)
+    (said_call old new slot (Host said) many refusal.Idle (λ one. IsSpare said one.host) (λ one spare. refl)
     (λ is. cc (is)) (λ is. cc (is))
     (λ answer one came.
     let says = says_idle answer in

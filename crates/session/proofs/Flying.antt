@@ -2,22 +2,17 @@
 use Rattle.std.proofs.Common.{◌≡◌, inl, inr, ℕ, zero, suc, List, [], ◌∷◌, get_or, map, Option, Some, None, refl, sym, ◌∙◌, ap, subst}
 use Rattle.std.specs.Prelude.{MatchOption}
 use Rattle.std.specs.List.{slice_get}
-use Rattle.std.specs.Option.{option_and_then, option_map, option_map_or}
+use Rattle.std.specs.Option.{option_and_then}
 use Rattle.std.proofs.lemmas.Bool.{cases_eq}
 use Rattle.block_device.specs.Flights.{InFlight}
-use Rattle.hosted_disk.specs.Disk.{HostedDisk}
-use Rattle.device_list.specs.Device.{DeviceState}
-use Rattle.device_list.specs.Model.{disk_of}
 use Rattle.board.specs.declared.event.Event.{Event}
 use Rattle.board.specs.declared.pause.Pause.{Pause}
 use Rattle.board.specs.declared.pause.Turn.{Turn}
 use Rattle.board.specs.declared.pause.Turn.TheVariants as turn
 use Rattle.board.specs.declared.reply.Reply.{Reply}
-use Rattle.board.specs.Backing.{HostDisk, as_hosted, tags_in}
 use Rattle.board.specs.declared.slot_disk.SlotDisk.{SlotDisk}
-use Rattle.board.specs.declared.slot_disk.SlotDisk.TheVariants.{Further, Own}
-use Rattle.board.specs.HostedDisks.{DiskUnit, LeavesTagOf, in_flight_of, unit_of}
-use Rattle.board.specs.Hosting.{own_in}
+use Rattle.board.specs.HostedDisks.{LeavesTagOf}
+use Rattle.board.specs.Units.{in_flight_of}
 use Rattle.board.specs.Image.{Health}
 use Rattle.board.specs.Pausing.{Begins}
 use Rattle.board.specs.Slot.{BoardSlot, SlotState, state_of}
@@ -41,38 +36,10 @@ module _ (disk : SlotDisk) (tag : ℕ) (here : InFlight) where
   abbrev seen_flight : SlotState → Option InFlight
   seen_flight state = get_or (in_flight_of disk state) tag None
 
-  flight_seen : (bytes : List ℕ) (found : BoardSlot) → flight_of disk tag found ≡ seen_flight (state_of bytes found)
-  flight_seen bytes found = by_disk disk
-    where
-      by_host : (host : Option HostDisk) → found.host ≡ host
-          → option_and_then (λ (served : HostedDisk). get_or served.tags tag None)
-          (option_map (λ h. as_hosted (own_in found)) host) ≡ get_or (tags_in found.host) tag None
-      by_host None is = sym (ap (λ (host : Option HostDisk). get_or (tags_in host) tag None) is)
-      by_host (Some h) is = refl
-
-      by_model : (d : DeviceState) (served : Option HostedDisk)
-          → option_and_then (λ (served : HostedDisk). get_or served.tags tag None) served
-          ≡ get_or (option_map_or (λ (u : DiskUnit). u.disk.tags)
-          (option_map (λ served. record { window = d.window; disk = served }) served) []) tag None
-      by_model d None = refl
-      by_model d (Some served) = refl
-
-      by_found : (d : Option DeviceState)
-          → option_and_then (λ (served : HostedDisk). get_or served.tags tag None)
-          (option_and_then (λ (d : DeviceState). disk_of d.model) d)
-          ≡ get_or (option_map_or (λ (u : DiskUnit). u.disk.tags) (option_and_then unit_of d) []) tag None
-      by_found None = refl
-      by_found (Some d) = by_model d (disk_of d.model)
-
-      by_disk : (disk : SlotDisk)
-          → flight_of disk tag found ≡ get_or (in_flight_of disk (state_of bytes found)) tag None
-      by_disk Own = by_host found.host refl
-      by_disk (Further n) = by_found (slice_get found.devices n)
-
   flight_there : (slots : List BoardSlot) (bytes : List ℕ) (slot : ℕ)
       → flight_at slot disk tag slots ≡ option_and_then seen_flight (slice_get (map (state_of bytes) slots) slot)
   flight_there [] bytes slot = refl
-  flight_there (found ∷ slots) bytes zero = flight_seen bytes found
+  flight_there (found ∷ slots) bytes zero = refl
   flight_there (found ∷ slots) bytes (suc slot) = flight_there slots bytes slot
 
   -- so where one slot is set to a state in which it is in flight, it is so there

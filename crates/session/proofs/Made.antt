@@ -15,7 +15,7 @@ use Rattle.block_device.specs.Extent.{IsWithin}
 use Rattle.board.specs.declared.spec.Backing.{Backing}
 use Rattle.board.specs.declared.spec.Backing.TheVariants.{Image, Host}
 use Rattle.board.specs.declared.spec.SlotSpec.{SlotSpec}
-use Rattle.board.specs.Backing.{HostDisk}
+use Rattle.hosted_disk.specs.Disk.{HostedDisk}
 use Rattle.board.specs.Fault.{IsAccepted, IsGoodSlot, place_by, room_by}
 use Rattle.board.specs.Pausing.{HasLimit}
 use Rattle.board.specs.Slot.{BoardSlot, SlotState, extent_by, host_by, opened, spare_by, state_of}
@@ -54,16 +54,16 @@ spare_by_alone Image extent spare image =
     ∙ ap (λ first. extent_of image first spare) (omega arith)
 spare_by_alone (Host depth) extent spare image = extent_of-extent_of image 0 0 0 0 (omega arith)
 
-host_of_count : (backing : Backing) (extent : Extent) → host_by backing (record extent { start = 0 })
-    ≡ host_by backing extent
-host_of_count Image extent = refl
-host_of_count (Host depth) extent = refl
+host_of_count : (backing : Backing) (spec : SlotSpec)
+    → host_by backing (record spec { extent = record spec.extent { start = 0 } }) ≡ host_by backing spec
+host_of_count Image spec = refl
+host_of_count (Host depth) spec = refl
 
 -- a guest's slot of a new session
 abbrev made : GuestSpec → BoardSlot
 made guest = with_fresh (devices_of guest) (opened guest.slot)
 
-seen_as : (spec : SlotSpec) (devices : List DeviceSpec) (image own own' more more' : List ℕ) (host host' : Option HostDisk)
+seen_as : (spec : SlotSpec) (devices : List DeviceSpec) (image own own' more more' : List ℕ) (host host' : Option HostedDisk)
     → own ≡ own' → more ≡ more' → host ≡ host'
     → ◌≡◌ {A = SlotState}
     (record (state_of image (with_fresh devices (opened spec))) { extent = own; spare_bytes = more; host = host })
@@ -77,7 +77,7 @@ same_state guest image =
     seen_as guest.slot (devices_of guest) image _ _ _ _ _ _
     (own_by guest.slot.backing guest.slot.extent guest.slot.spare image)
     (spare_by_alone guest.slot.backing guest.slot.extent guest.slot.spare image)
-    (host_of_count guest.slot.backing guest.slot.extent)
+    (host_of_count guest.slot.backing guest.slot)
 
 there_in : (guests : List GuestSpec) (g : ℕ) (guest : GuestSpec) (image : List ℕ) (budget : Budget)
     → slice_get guests g ≡ Some guest → slice_get (world_of (new_session guests image budget)).slots g

@@ -32,7 +32,7 @@ use Rattle.board.specs.declared.reply.Reply.TheVariants.{Done, Took}
 use Rattle.board.specs.Image.{Health, sectors_of, disk_with}
 use Rattle.board.specs.Devices.{device_asks}
 use Rattle.board.specs.ImageDisks.{GivesAtDevice, device_readied, image_asked, image_device, image_disk_of, image_served}
-use Rattle.board.specs.Backing.{HostDisk}
+use Rattle.hosted_disk.specs.Disk.{HostedDisk}
 use Rattle.board.specs.Hosting.{has_part, is_block_task, notifies_block}
 use Rattle.board.specs.Machine.{GivesBy, GivesOverImage, IsNext, action_at, at_rest, task_at, with_input, with_write}
 use Rattle.board.specs.Outcome.{Outcome, replies}
@@ -338,7 +338,7 @@ under_way (Image disk) model' q m m' w w' h = absurd h
 same_served : (n q : ℕ) (now mid : SlotState) → now.host ≡ mid.host → now.spare ≡ mid.spare
     → image_at n now.devices ≡ image_at n mid.devices → image_served (Further n q) now ≡ image_served (Further n q) mid
 same_served n zero now mid host spare disk =
-    ap (λ (h : Option HostDisk). image_disk_of h now.spare (image_at n now.devices)) host
+    ap (λ (h : Option HostedDisk). image_disk_of h now.spare (image_at n now.devices)) host
     ∙ ap (λ (s : ℕ). image_disk_of mid.host s (image_at n now.devices)) spare
     ∙ ap (λ (d : Option BlockDevice). image_disk_of mid.host mid.spare d) disk
 same_served n (suc q) now mid host spare disk = refl
@@ -460,7 +460,7 @@ finished (PutOut byte) pause mid new out own asks = absurd (cc)
 record Gave {A : Type 0} (what : EventKind A) (state : SlotState) (outcome : Outcome A) : Type 0 where
   after : Health
   gives : GivesOverImage state what at_rest after outcome
-  rests : (own : HostDisk) → state.host ≡ Some own → notifies_block what state ≡ false → after ≡ at_rest
+  rests : (own : HostedDisk) → state.host ≡ Some own → notifies_block what state ≡ false → after ≡ at_rest
 
 -- of what is done to a further device
 further_gave : {A : Type 0} (n : ℕ) (what : DeviceEvent A) (state : SlotState) (pause : Pause)
@@ -534,12 +534,12 @@ gave {A} (Device n what) state pause new out asks e =
 gave what state pause new out asks e = absurd (cc)
 
 -- and whoever has the guest's disk
-next_by : {A : Type 0} (host : Option HostDisk) (what : EventKind A) (state : SlotState) (outcome : Outcome A)
+next_by : {A : Type 0} (host : Option HostedDisk) (what : EventKind A) (state : SlotState) (outcome : Outcome A)
     → state.host ≡ host → has_part host what state ≡ false → Gave what state outcome
     → IsNext state what outcome
 next_by {A} None what state outcome is free g = record {
   after = g.after;
-  gives = subst (λ (k : Option HostDisk). GivesBy {A = A} k state what at_rest g.after outcome) (sym is)
+  gives = subst (λ (k : Option HostedDisk). GivesBy {A = A} k state what at_rest g.after outcome) (sym is)
       g.gives;
 }
 next_by {A} (Some disk) what state outcome is free g =
@@ -548,7 +548,7 @@ next_by {A} (Some disk) what state outcome is free g =
     subst (λ (h : Health). GivesOverImage state what at_rest h outcome) (g.rests disk is beside.quiet) g.gives in
     record {
       after = at_rest;
-      gives = subst (λ (k : Option HostDisk). GivesBy {A = A} k state what at_rest at_rest outcome) (sym is)
+      gives = subst (λ (k : Option HostedDisk). GivesBy {A = A} k state what at_rest at_rest outcome) (sym is)
           (record {
             gives = passes (λ (o : Outcome A). GivesOverImage state what at_rest at_rest o) disk state what
                 outcome free given;
@@ -593,6 +593,6 @@ pub goes_by_piece : {A : Type 0} (what : EventKind A) (state : SlotState) (pause
     (out : List ℕ) → asked what state ≡ Some pause → Way pause.service (readied what state) now out
     → is_hosts now.host pause.service ≡ false
 goes_by_piece what state pause now out asks w =
-    ap (λ (host : Option HostDisk). is_hosts host pause.service)
+    ap (λ (host : Option HostedDisk). is_hosts host pause.service)
     (way_host pause.service (readied what state) now out w ∙ readied_host what state)
     ∙ serves_itself what state pause asks

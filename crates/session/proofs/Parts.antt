@@ -10,7 +10,8 @@ use Rattle.board.specs.declared.pause.Pause.{Pause}
 use Rattle.board.specs.declared.pause.Service.{Service}
 use Rattle.board.specs.declared.pause.Service.TheVariants.{Block, Receive, Transmit, Further}
 use Rattle.block_device.specs.Tags.{is_any}
-use Rattle.board.specs.Backing.{HostDisk, tags_in}
+use Rattle.hosted_disk.specs.Disk.{HostedDisk}
+use Rattle.board.specs.Backing.{tags_in}
 use Rattle.board.specs.Hosting.{has_part, is_block_task, must_wait, notifies_block, told_in}
 use Rattle.board.specs.Image.{Health}
 use Rattle.board.specs.Machine.{readied, task_at, with_write}
@@ -24,7 +25,7 @@ use Rattle.board.proofs.FurtherPieces.{asking}
 use Rattle.board.proofs.OnHost.{passes_by, ringing_part}
 
 -- one that is an own one, waits for nothing, and doesn't notify the block device
-no_part : {A : Type 0} (host : Option HostDisk) (what : EventKind A) (state : SlotState)
+no_part : {A : Type 0} (host : Option HostedDisk) (what : EventKind A) (state : SlotState)
     → told_in what ≡ None → must_wait what ≡ false → notifies_block what state ≡ false
     → has_part host what state ≡ false
 no_part None what state own free quiet = refl
@@ -99,13 +100,13 @@ pub serves_itself : {A : Type 0} (what : EventKind A) (state : SlotState) (pause
     → asked what state ≡ Some pause → is_hosts state.host pause.service ≡ false
 serves_itself {A} what state pause asks = by_host state.host pause.service refl refl
   where
-    by_host : (host : Option HostDisk) (service : Service) → state.host ≡ host → pause.service ≡ service
+    by_host : (host : Option HostedDisk) (service : Service) → state.host ≡ host → pause.service ≡ service
         → is_hosts host service ≡ false
     by_host None service is which = refl
     by_host (Some disk) Block is which =
         let freely = asks_freely what state pause asks in
         let free : has_part (Some disk) what state ≡ false =
-        ap (λ (host : Option HostDisk). has_part host what state) (sym is) ∙ freely.free in
+        ap (λ (host : Option HostedDisk). has_part host what state) (sym is) ∙ freely.free in
         absurd (ringing_part disk what state (block_rings what state pause freely.asks which) free)
     by_host (Some disk) Receive is which = refl
     by_host (Some disk) Transmit is which = refl

@@ -16,7 +16,7 @@ use Rattle.board.specs.Image.{Health}
 use Rattle.board.specs.Outcome.{Outcome}
 use Rattle.board.specs.Replies.{MayReply}
 use Rattle.board.specs.declared.pause.Pause.{Pause}
-use Rattle.board.specs.Backing.{HostDisk}
+use Rattle.hosted_disk.specs.Disk.{HostedDisk}
 use Rattle.board.specs.Hosting.{LooksOrGives, OwnGives, notifies_block, waits_now}
 use Rattle.board.specs.Pausing.{Begins, TurnsTo, asked, asked_over_image}
 use Rattle.board.specs.Slot.{SlotState}
@@ -81,7 +81,7 @@ module _ {A : Type 0} (Beside : Outcome A → Type 0) (state : SlotState) (what 
   silent_own true h = ap (λ (o : Outcome A). o.output) h
   silent_own false h = silent_looks (notifies_block what state) h
 
-silent_by : {A : Type 0} (host : Option HostDisk) (state : SlotState) (what : EventKind A) (old new : Health)
+silent_by : {A : Type 0} (host : Option HostedDisk) (state : SlotState) (what : EventKind A) (old new : Health)
     (outcome : Outcome A) → MayReply what BadRange → MayGiveBy host state what old new outcome
     → outcome.output ≡ []
 silent_by None state what old new outcome may h = silent_over_image state what old new outcome may h

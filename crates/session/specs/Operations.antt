@@ -1,20 +1,20 @@
 -- A slot's disks that its host serves: what is in flight, which events wait for that, when an operation began, and where there
 -- is nothing to do for what the host says.
-use Rattle.std.specs.Prelude.{◌≡◌, ◌≢◌, ◌⊎◌, ℕ, ◌+◌, ◌^◌, ◌||◌, Bool, true, false, List, Option, None, IsSomeAnd, IsTrue, get_or}
+use Rattle.std.specs.Prelude.{◌≡◌, ◌≢◌, ℕ, ◌+◌, ◌^◌, ◌||◌, false, List, Option, None, IsSomeAnd, IsTrue, get_or}
 use Rattle.std.specs.List.{slice_get}
-use Rattle.std.specs.Option.{option_and_then, option_map}
+use Rattle.std.specs.Option.{option_and_then, option_map, option_map_or}
 use Rattle.block_device.specs.Flights.{InFlight}
-use Rattle.block_device.specs.Tags.{is_any, taken_bits}
+use Rattle.block_device.specs.Tags.{taken_bits}
 use Rattle.hosted_disk.specs.Disk.{HostedDisk}
 use Rattle.hosted_disk.specs.Told.{has_effect}
 use Rattle.device_list.specs.List.{disk_at}
 use Rattle.board.specs.declared.event.EventKind.{EventKind}
 use Rattle.block_device.specs.declared.operation.HostEvent.{HostEvent}
 use Rattle.block_device.specs.declared.operation.HostEvent.TheVariants.{Complete, Drop, Hold, Release}
-use Rattle.board.specs.Backing.{HostDisk, tags_in}
+use Rattle.board.specs.Backing.{tags_in}
 use Rattle.board.specs.declared.slot_disk.SlotDisk.{SlotDisk}
 use Rattle.board.specs.declared.slot_disk.SlotDisk.TheVariants.{Further, Own}
-use Rattle.board.specs.HostedDisks.{disk_in}
+use Rattle.board.specs.Units.{disk_in}
 use Rattle.board.specs.Hosting.{waits_now}
 use Rattle.board.specs.Slot.{BoardSlot, is_at_work, state_of}
 use Rattle.board.specs.Waiting.{waits_beside}
@@ -22,7 +22,7 @@ use Rattle.session.specs.Session.{SessionState}
 
 -- what is in flight with this tag of a disk: nothing where that isn't one that its host serves
 abbrev pub flight_of : SlotDisk → ℕ → BoardSlot → Option InFlight
-flight_of disk tag found = option_and_then (λ served. get_or served.tags tag None) (disk_in disk found)
+flight_of disk tag found = get_or (tags_in (disk_in disk found)) tag None
 
 abbrev pub flight_at : ℕ → SlotDisk → ℕ → List BoardSlot → Option InFlight
 flight_at slot disk tag slots = option_and_then (flight_of disk tag) (slice_get slots slot)
@@ -53,18 +53,15 @@ AskedBy Release before after = after ≢ before
 abbrev pub HasFlight : ℕ → List BoardSlot → Type 0
 HasFlight slot slots = IsSomeAnd (slice_get slots slot) (λ found. IsTrue (is_at_work found))
 
--- Nothing is to be done for what the host says, by who has the disk and whether the slot is on hold: no operation
--- has the tag, none is in flight, the slot is on hold already, or it isn't. Over an image nothing ever is.
-abbrev pub IsSpare : HostEvent → Option HostDisk → Bool → Type 0
-IsSpare (Complete tag verdict) host on_hold = get_or (tags_in host) tag None ≡ None
-IsSpare Drop host on_hold = is_any (tags_in host) ≡ false
-IsSpare Hold host on_hold = (host ≡ None) ⊎ (on_hold ≡ true)
-IsSpare Release host on_hold = (host ≡ None) ⊎ (on_hold ≡ false)
+-- Nothing is to be done for what the host says of the disk that it serves: no operation has the tag, none is in flight, the
+-- disk is on hold already, or it isn't. Over an image nothing ever is.
+abbrev pub IsSpare : HostEvent → Option HostedDisk → Type 0
+IsSpare said host = option_map_or (has_effect said) host false ≡ false
 
 -- the slot is there and has this disk, and nothing is to be done for what the host says of it
 abbrev pub HasNothing : ℕ → SlotDisk → HostEvent → List BoardSlot → Type 0
 HasNothing slot Own said slots =
-    IsSomeAnd (slice_get slots slot) (λ found. IsSpare said found.host found.on_hold)
+    IsSomeAnd (slice_get slots slot) (λ found. IsSpare said found.host)
 HasNothing slot (Further n) said slots =
     IsSomeAnd (slice_get slots slot)
     (λ found. IsSomeAnd (disk_at n found.devices) (λ disk. has_effect said disk ≡ false))

@@ -1,5 +1,5 @@
 -- A call of the block device of a guest that stands still begins with one event of its slot.
-use Rattle.std.proofs.Common.{◌≡◌, ◌∙◌, ℕ, zero, suc, Bool, true, false, Option, Some, None, List, [], ◌∷◌, ◌++◌, refl, sym, ap, subst}
+use Rattle.std.proofs.Common.{◌≡◌, ◌∙◌, ℕ, zero, suc, Bool, true, false, Option, Some, None, List, [], ◌∷◌, ◌++◌, refl, sym, ap}
 use Rattle.std.specs.Prelude.{◌&&◌}
 use Rattle.guest_memory.specs.Memory.{Memory}
 use Rattle.chain.specs.declared.budget.Progress.TheVariants as progress
@@ -11,11 +11,8 @@ use Rattle.mmio_window.specs.Soundness.{IsSound}
 use Rattle.mmio_window.specs.Window.{WindowState, queue_at}
 use Rattle.mmio_window.specs.Writing.{action_of, written}
 use Rattle.shared_memory.specs.Sightings.{Sightings, memory}
-use Rattle.block_device.specs.declared.device.BlockDevice.{BlockDevice}
 use Rattle.block_device.specs.Tags.{is_any}
-use Rattle.block_device.specs.Flights.{HostedQueue}
 use Rattle.block_device.specs.Hosting.{wants_stable}
-use Rattle.hosted_disk.specs.Disk as hosted
 use Rattle.racing_service.specs.declared.stage.Stage.TheVariants.{First}
 use Rattle.racing_hosted_disk.specs.declared.look.LookLimits.{LookLimits}
 use Rattle.racing_guest.specs.Block as racing
@@ -24,13 +21,14 @@ use Rattle.racing_guest.specs.Guest.{IsSoundGuest, RacingGuest}
 use Rattle.board.specs.declared.event.EventKind.TheVariants.{Write}
 use Rattle.board.specs.declared.event.SlotWindow.TheVariants as window
 use Rattle.board.specs.declared.reply.Reply.TheVariants.{Busy, Done}
-use Rattle.board.specs.Hosting.{LooksAtQueue, hosted_device, hosted_queue, is_block_task, own_disk}
+use Rattle.board.specs.Hosting.{LooksAtQueue, is_block_task}
 use Rattle.board.specs.Machine.{at_rest}
 use Rattle.board.specs.Slot.{SlotState}
 use Rattle.board.specs.Task.{Finishes, task_of}
+use Rattle.board.specs.Units.{DiskUnit, unit_queue}
 use Rattle.standing_guest.specs.Event.{BeginsWith, BlockStands, IsEvent, NotifiedStands}
-use Rattle.standing_guest.specs.Slot.{slot_of, tags_of}
-use Rattle.standing_guest.proofs.Going.{Tags, queue_of}
+use Rattle.standing_guest.specs.Slot.{disk_of, slot_of, tags_of}
+use Rattle.standing_guest.proofs.Going.{Tags}
 use Rattle.standing_guest.proofs.Looking.{looked, looks_unready}
 use Rattle.standing_guest.proofs.Tags.{as_still, same_any}
 use Rattle.standing_guest.proofs.Writing.{written_sound}
@@ -61,21 +59,6 @@ nothing_left A (action.Notify (suc q)) state is = record { alike = refl; image =
 nothing_left A (action.ConfigWrite offset width value) state is = record { alike = refl; image = refl }
 nothing_left A _ state is = record { alike = refl; image = refl }
 
--- ---- the device
-
--- it is the device of a slot, where its disk begins at its first sector
-pub own_device : (device : BlockDevice) → device.extent.start ≡ 0
-    → device ≡ record {
-      extent = record { start = 0; count = device.extent.count };
-      read_only = device.read_only;
-      identity = device.identity;
-    }
-own_device device own = ap (λ (start : ℕ). record {
-  extent = record { start = start; count = device.extent.count };
-  read_only = device.read_only;
-  identity = device.identity;
-}) own
-
 module _ (A : Type 0) where
   -- ---- a write that waits
 
@@ -98,22 +81,21 @@ module _ (A : Type 0) where
   -- ---- a slot's look
 
   module _ (limits : LookLimits) (old new : Sightings) (guest after : RacingGuest) (block : RacingBlock)
-      (sound : IsSound (memory old) block.window) (own : block.disk.device.extent.start ≡ 0)
-      (console : after.console ≡ guest.console) where
+      (sound : IsSound (memory old) block.window) (console : after.console ≡ guest.console) where
     -- the slot as its block device finds it
     abbrev pub ready : SlotState
     ready = slot_of (memory old) (record { block = block; console = guest.console })
-
-    device_is : block.disk.device ≡ hosted_device ready
-    device_is = own_device block.disk.device own
 
     -- the slot, where its queue stands so
     abbrev stood : Memory → WindowState → Tags → SlotState
     stood m w tags = record ready {
       memory = m;
       block = w;
-      host = Some (record { sectors = block.disk.device.extent.count; tags = as_still tags });
+      host = Some (record (disk_of block.disk) { tags = as_still tags });
     }
+
+    abbrev unit : DiskUnit
+    unit = record { window = block.window; disk = disk_of block.disk }
 
     same : (m : Memory) (w : WindowState) (tags : Tags) → memory new ≡ m → after.block.window ≡ w
         → after.block.disk ≡ record block.disk { tags = tags } → slot_of (memory new) after ≡ stood m w tags
@@ -129,8 +111,10 @@ module _ (A : Type 0) where
     notified_at None at n = record {
       first = ready;
       looks = record {
-        disk = own_disk ready;
-        does = record { looks = looks_unready (hosted_device ready) (hosted_queue ready) block.disk.on_hold at; is = refl };
+        before = unit;
+        after = unit;
+        there = refl;
+        does = record { looks = looks_unready block.disk.device (unit_queue (memory old) unit) block.disk.on_hold at; is = refl };
         is = refl;
       };
       whole = λ stands. same (memory old) block.window block.disk.tags (ap memory n.memory) (ap (λ (b : RacingBlock). b.window) n.device)
@@ -144,12 +128,10 @@ module _ (A : Type 0) where
         record {
           first = stood b.memory b.window b.kept;
           looks = record {
-            disk = record (own_disk ready) { tags = as_still b.kept };
-            does = record {
-              looks = subst (λ (d : BlockDevice). hosted.LooksUnless disk.on_hold d (hosted_queue ready)
-                  (queue_of b.memory b.window b.kept)) device_is b.looks;
-              is = refl;
-            };
+            before = unit;
+            after = record { window = b.window; disk = record (disk_of disk) { tags = as_still b.kept } };
+            there = refl;
+            does = record { looks = b.looks; is = refl };
             is = refl;
           };
           whole = λ stands.
@@ -179,7 +161,7 @@ module _ (A : Type 0) where
           let action = action_of offset width value guest.block.window in
           let waits = write_waits_too (memory old) guest offset false free in
           let b = notified_at limits old new guest after block
-          (written_sound offset width value (memory old) guest.block.window sound.block.window) own console
+          (written_sound offset width value (memory old) guest.block.window sound.block.window) console
           (queue_at 0 block.window) refl n in
           record {
             first = b.first;
@@ -196,7 +178,7 @@ module _ (A : Type 0) where
           let waits = write_waits_too (memory old) guest offset false free in
           let first = slot_of (memory old) (record { block = block; console = guest.console }) in
           let there = same limits old new guest after block
-          (written_sound offset width value (memory old) guest.block.window sound.block.window) own console (memory old)
+          (written_sound offset width value (memory old) guest.block.window sound.block.window) console (memory old)
           block.window block.disk.tags (ap memory n.memory) (ap (λ (b : RacingBlock). b.window) n.device)
           (ap (λ (b : RacingBlock). b.disk) n.device) in
           record {

@@ -1,5 +1,5 @@
 -- What the host tells a guest that stands still begins with one event of its slot.
-use Rattle.std.proofs.Common.{◌≡◌, ◌∙◌, ℕ, Bool, true, false, Option, Some, None, List, [], get_or, set, refl, sym, ap, subst}
+use Rattle.std.proofs.Common.{◌≡◌, ◌∙◌, Bool, true, false, Option, Some, None, List, [], get_or, set, refl, sym, ap}
 use Rattle.std.specs.Prelude.{is_some, not}
 use Rattle.std.specs.Option.{option_map}
 use Rattle.guest_memory.specs.Memory.{Memory}
@@ -9,14 +9,11 @@ use Rattle.mmio_window.specs.declared.queue.Token.{Token}
 use Rattle.mmio_window.specs.Soundness.{IsSound}
 use Rattle.mmio_window.specs.Window.{WindowState, queue_at, with_reset_asked}
 use Rattle.shared_memory.specs.Sightings.{Sightings, memory}
-use Rattle.block_device.specs.declared.device.BlockDevice.{BlockDevice}
 use Rattle.block_device.specs.declared.operation.HostEvent.{HostEvent}
 use Rattle.block_device.specs.declared.operation.HostEvent.TheVariants.{Complete, Drop, Hold, Release}
-use Rattle.block_device.specs.declared.operation.Verdict.{Verdict}
 use Rattle.block_device.specs.Flights as still_tags
-use Rattle.block_device.specs.Hosting as hosting
+use Rattle.block_device.specs.Flights.{HostedQueue}
 use Rattle.block_device.specs.Hosting.{wants_stable}
-use Rattle.hosted_disk.specs.Disk as hosted
 use Rattle.hosted_disk.specs.Told as still
 use Rattle.hosted_disk.specs.Told.{QueueTold, held_by}
 use Rattle.racing_hosted_disk.specs.declared.look.LookEnding.{LookEnding}
@@ -25,20 +22,18 @@ use Rattle.racing_service.specs.declared.stage.Stage.TheVariants.{First, Again}
 use Rattle.racing_hosted_disk.specs.declared.look.LookLimits.{LookLimits}
 use Rattle.racing_hosted_disk.specs.Disk.{RacingHostedDisk}
 use Rattle.racing_hosted_disk.specs.Looking.{Place}
-use Rattle.block_device.specs.Tags.{InFlight, freed, is_any}
+use Rattle.block_device.specs.Tags.{freed, is_any}
 use Rattle.racing_hosted_disk.specs.Told.{has_effect}
 use Rattle.racing_guest.specs.Block.{IsToldBy, TellsBlock, TellsUnserved, showing}
 use Rattle.racing_guest.specs.Guest.{IsSoundGuest, RacingGuest}
 use Rattle.racing_guest.proofs.Telling.{with_ring_same}
 use Rattle.board.specs.declared.event.EventKind.TheVariants.{Host}
 use Rattle.board.specs.declared.reply.Reply.TheVariants.{Done, Idle}
-use Rattle.board.specs.Hosting.{HostGives, hosted_device, hosted_queue, own_disk}
+use Rattle.board.specs.Hosting.{HostGives}
 use Rattle.board.specs.Machine.{at_rest}
 use Rattle.board.specs.Slot.{SlotState}
 use Rattle.standing_guest.specs.Event.{BeginsWith, IsEvent, IsServed}
-use Rattle.standing_guest.specs.Rest.{WindowRests}
-use Rattle.standing_guest.specs.Slot.{in_flight, slot_of}
-use Rattle.standing_guest.proofs.Block.{own_device}
+use Rattle.standing_guest.specs.Slot.{disk_of, in_flight, slot_of}
 use Rattle.standing_guest.proofs.Going.{Tags, queue_of}
 use Rattle.standing_guest.proofs.Landing.{is_landing, landed_closed, landed_ready, landed_sound, landed_stable, landed_window, shown_twice}
 use Rattle.standing_guest.proofs.Looking.{looked, looks_unready}
@@ -59,17 +54,17 @@ some_there (Some x) is = record { here = x; is = refl }
 module _ (A : Type 0) where
   -- ---- nothing to do
 
-  same_effect : (what : HostEvent) (m : Memory) (guest : RacingGuest)
-      → still.has_effect what (own_disk (slot_of m guest)) ≡ has_effect what guest.block.disk
-  same_effect (Complete tag verdict) m guest =
+  same_effect : (what : HostEvent) (guest : RacingGuest)
+      → still.has_effect what (disk_of guest.block.disk) ≡ has_effect what guest.block.disk
+  same_effect (Complete tag verdict) guest =
       ap is_some (same_at guest.block.disk.tags tag) ∙ same_some in_flight (get_or guest.block.disk.tags tag None)
-  same_effect Drop m guest = same_any guest.block.disk.tags
-  same_effect Hold m guest = refl
-  same_effect Release m guest = refl
+  same_effect Drop guest = same_any guest.block.disk.tags
+  same_effect Hold guest = refl
+  same_effect Release guest = refl
 
   idle : (what : HostEvent) (m : Memory) (guest : RacingGuest) → has_effect what guest.block.disk ≡ false
       → HostGives {A = A} what (slot_of m guest) (record { state = slot_of m guest; reply = Idle; output = [] })
-  idle what m guest none = rw (same_effect what m guest ∙ none) refl
+  idle what m guest none = rw (same_effect what guest ∙ none) refl
 
   pub told_nothing : (what : HostEvent) (m : Memory) (guest : RacingGuest) → has_effect what guest.block.disk ≡ false
       → IsEvent {A = A} (slot_of m guest) (Host what) (slot_of m guest) Idle []
@@ -81,20 +76,25 @@ module _ (A : Type 0) where
   -- ---- something
 
   module _ (limits : LookLimits) (old new : Sightings) (guest after : RacingGuest)
-      (sound : IsSound (memory old) guest.block.window) (own : guest.block.disk.device.extent.start ≡ 0)
-      (console : after.console ≡ guest.console) where
+      (sound : IsSound (memory old) guest.block.window) (console : after.console ≡ guest.console) where
     abbrev state : SlotState
     state = slot_of (memory old) guest
+
+    -- where its queue stands, and the slot where it stands so
+    abbrev began : HostedQueue
+    began = queue_of (memory old) guest.block.window guest.block.disk.tags
+
+    abbrev put : Memory → WindowState → Tags → Bool → SlotState
+    put m w tags on_hold = record state {
+      memory = m;
+      block = w;
+      host = Some (record { device = guest.block.disk.device; tags = as_still tags; on_hold = on_hold });
+    }
 
     -- the slot behind that, by what becomes of its disk
     same : (m : Memory) (w : WindowState) (tags : Tags) (on_hold : Bool) → memory new ≡ m → after.block.window ≡ w
         → after.block.disk ≡ record guest.block.disk { tags = tags; on_hold = on_hold }
-        → slot_of (memory new) after ≡ record state {
-          memory = m;
-          block = w;
-          host = Some (record { sectors = guest.block.disk.device.extent.count; tags = as_still tags });
-          on_hold = on_hold;
-        }
+        → slot_of (memory new) after ≡ put m w tags on_hold
     same m w tags on_hold memories windows disks =
         let device = ap (λ (d : RacingHostedDisk Token). d.device) disks in
         let kept = ap (λ (d : RacingHostedDisk Token). d.tags) disks in
@@ -111,34 +111,28 @@ module _ (A : Type 0) where
 
     -- ---- what the host says
 
-    -- the slot, where its queue stands so
-    abbrev stood : Memory → WindowState → Tags → SlotState
-    stood m w tags = record state {
-      memory = m;
-      block = w;
-      host = Some (record { sectors = guest.block.disk.device.extent.count; tags = as_still tags });
-    }
-
-    -- and whether it is on hold is what that comes to
-    abbrev put : HostEvent → Memory → WindowState → Tags → SlotState
-    put what m w tags = record (stood m w tags) { on_hold = held_by what guest.block.disk.on_hold }
-
     told_too : (what : HostEvent) (m : Memory) (w : WindowState) (tags : Tags)
         → has_effect what guest.block.disk ≡ true
-        → QueueTold what (hosted_device state) state.on_hold (hosted_queue state) (queue_of m w tags)
-        → (IsServed {A = A} (Host what) state (put what m w tags) → (memory new ≡ m) × (after.block.window ≡ w)
+        → QueueTold what guest.block.disk.device guest.block.disk.on_hold began (queue_of m w tags)
+        → (IsServed {A = A} (Host what) state (put m w tags (held_by what guest.block.disk.on_hold)) → (memory new ≡ m) × (after.block.window ≡ w)
         × (after.block.disk
         ≡ record guest.block.disk { tags = tags; on_hold = held_by what guest.block.disk.on_hold }))
         → begins what
     told_too what m w tags effect told whole = record {
-      first = put what m w tags;
+      first = put m w tags (held_by what guest.block.disk.on_hold);
       output = [];
-      event = event what (put what m w tags) (rw (same_effect what (memory old) guest ∙ effect) (
+      event = event what (put m w tags (held_by what guest.block.disk.on_hold)) (rw (same_effect what guest ∙ effect) (
         record {
-          disk = record (own_disk state) {
-            tags = as_still tags;
-            on_hold = held_by what guest.block.disk.on_hold;
+          before = record { window = guest.block.window; disk = disk_of guest.block.disk };
+          after = record {
+            window = w;
+            disk = record {
+              device = guest.block.disk.device;
+              tags = as_still tags;
+              on_hold = held_by what guest.block.disk.on_hold;
+            };
           };
+          there = refl;
           does = record { queue = told; is = refl };
           is = refl;
         },
@@ -183,17 +177,17 @@ module _ (A : Type 0) where
           lands = record {
             here = in_flight there.here;
             there = same_at disk.tags tag ∙ ap (option_map in_flight) there.is;
-            lands = rw at (ap (λ (tags : List (Option still_tags.InFlight)). record (hosted_queue state) { tags = tags })
+            lands = rw at (ap (λ (tags : List (Option still_tags.InFlight)). record began { tags = tags })
                 (same_set disk.tags tag));
           };
-          looks = looks_unready (hosted_device state) landed disk.on_hold at;
+          looks = looks_unready guest.block.disk.device landed disk.on_hold at;
         })
         (λ rests. (ap memory t.memory, t.window, t.disk))
     unserved Drop some at t = dropped_too guest.block.window some (ap memory t.memory) refl t.window t.disk
     unserved Hold some at t = held_too some (ap memory t.memory) t.window t.disk
     unserved Release some at t =
         told_too Release (memory old) guest.block.window guest.block.disk.tags some
-        (looks_unready (hosted_device state) (hosted_queue state) false at)
+        (looks_unready guest.block.disk.device began false at)
         (λ rests. (ap memory t.memory, t.window, t.disk))
 
     -- ---- where it can
@@ -217,7 +211,6 @@ module _ (A : Type 0) where
         let w1 = landed_window w ring c.before in
         let m1 = memory there.service.sightings in
         let landing = is_landing disk.device tag verdict old w queue limits.budget disk.tags there c.before sound at c.lands in
-        let device = own_device disk.device own in
         let shown : after.block.window ≡ showing w1 t.last t.ending c.asked =
         t.window ∙ ap (showing w t.last t.ending) c.wanted_is ∙ sym (shown_twice w ring t.last t.ending c.before c.asked) in
         let b = looked disk.device limits there.service.left (wants_stable w) Again there.service.sightings new w1 after.block.window ring t.last
@@ -231,12 +224,10 @@ module _ (A : Type 0) where
         (record {
           landed = queue_of m1 w1 there.tags;
           lands = landing;
-          looks = subst (λ (d : BlockDevice). hosted.LooksUnless disk.on_hold d (queue_of m1 w1 there.tags)
-              (queue_of b.memory b.window b.kept)) device b.looks;
+          looks = b.looks;
         })
         (λ rests.
-        let all = b.whole (subst (λ (d : BlockDevice). WindowRests (hosting.hosted_device d) 0 b.memory b.window tt)
-        (sym device) rests) in
+        let all = b.whole rests in
         (all.0, all.1, t.disk.is ∙ ap (λ (tags : Tags). record disk { tags = tags }) all.2))
     served Drop queue some at t =
         let idle = t.disk.queue in
@@ -259,12 +250,9 @@ module _ (A : Type 0) where
     served Release queue some at t =
         let disk = guest.block.disk in
         let w = guest.block.window in
-        let device = own_device disk.device own in
         let b = looked disk.device limits limits.budget (wants_stable w) First old new w after.block.window queue t.last t.disk.left disk.tags
         after.block.disk.tags t.wanted sound at refl tt false t.ending (sym t.progress_is) t.window t.disk.queue in
-        told_too Release b.memory b.window b.kept some
-        (subst (λ (d : BlockDevice). hosted.LooksUnless false d (hosted_queue state)
-        (queue_of b.memory b.window b.kept)) device b.looks)
+        told_too Release b.memory b.window b.kept some b.looks
         (λ stands.
         let all = b.stands stands in
         (all.0, all.1, t.disk.is ∙ ap (λ (tags : Tags). record disk { tags = tags; on_hold = false }) all.2))
@@ -281,4 +269,4 @@ module _ (A : Type 0) where
       → IsToldBy what false limits (queue_at 0 before.block.window) old new before.block after.block progress.Done
       → BeginsWith {A = A} (slot_of (memory old) before) (Host what) Done (slot_of (memory new) after) [] []
   told_done what limits old new before after sound own some console t =
-      told_by limits old new before after sound.block.window own console what (queue_at 0 before.block.window) some refl t
+      told_by limits old new before after sound.block.window console what (queue_at 0 before.block.window) some refl t

@@ -1,5 +1,5 @@
 -- What a call of a guest that stands still comes to: one event of the slot that it is.
-use Rattle.std.specs.Prelude.{◌≡◌, ℕ, zero, suc, ⊤, ◌++◌, List}
+use Rattle.std.specs.Prelude.{◌≡◌, ℕ, zero, suc, ⊤, ◌++◌, IfSome, List}
 use Rattle.guest_memory.specs.Memory.{Memory}
 use Rattle.mmio_window.specs.declared.action.Action.{Action}
 use Rattle.mmio_window.specs.declared.action.Action.TheVariants.{Notify}
@@ -13,7 +13,6 @@ use Rattle.board.specs.declared.event.SlotWindow.{SlotWindow}
 use Rattle.board.specs.declared.event.SlotWindow.TheVariants.{Block, Console}
 use Rattle.board.specs.declared.reply.Reply.{Reply}
 use Rattle.board.specs.declared.reply.Reply.TheVariants.{Done, NoMemory}
-use Rattle.board.specs.Hosting.{hosted_device}
 use Rattle.board.specs.Machine.{IsNext, action_at}
 use Rattle.board.specs.Slot.{SlotState}
 use Rattle.board.specs.Within.{IsNextWithin}
@@ -51,7 +50,8 @@ NotifiedStands window action m behind = ⊤
 
 -- another notification of the disk's queue would find nothing
 abbrev pub BlockRests : SlotState → Type 0
-BlockRests state = WindowRests (hosting.hosted_device (hosted_device state)) 0 state.memory state.block tt
+BlockRests state =
+    IfSome state.host (λ disk. WindowRests (hosting.hosted_device disk.device) 0 state.memory state.block tt)
 
 -- Nothing is left to be done of an event in the queue that it serves, if it serves one. Behind a completion, which wrote itself
 -- before the look, that is said of the queue as the look left it.

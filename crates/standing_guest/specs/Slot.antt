@@ -16,7 +16,7 @@ use Rattle.board.specs.declared.event.SlotWindow.{SlotWindow}
 use Rattle.board.specs.declared.event.SlotWindow.TheVariants.{Block, Console}
 use Rattle.board.specs.declared.spec.Backing.TheVariants.{Host}
 use Rattle.board.specs.declared.spec.SlotSpec.{SlotSpec}
-use Rattle.board.specs.Backing.{HostDisk}
+use Rattle.hosted_disk.specs.Disk.{HostedDisk}
 use Rattle.board.specs.Slot.{SlotState}
 
 abbrev pub slot_window : GuestWindow → SlotWindow
@@ -38,8 +38,8 @@ in_flight here = record {
 abbrev pub tags_of : RacingHostedDisk Token → List (Option still.InFlight)
 tags_of disk = map (option_map in_flight) disk.tags
 
-abbrev pub disk_of : RacingHostedDisk Token → HostDisk
-disk_of disk = record { sectors = disk.device.extent.count; tags = tags_of disk }
+abbrev pub disk_of : RacingHostedDisk Token → HostedDisk
+disk_of disk = record { device = disk.device; tags = tags_of disk; on_hold = disk.on_hold }
 
 abbrev pub slot_of : Memory → RacingGuest → SlotState
 slot_of m guest = record {
@@ -48,7 +48,6 @@ slot_of m guest = record {
   spare = 0;
   spare_bytes = [];
   host = Some (disk_of guest.block.disk);
-  on_hold = guest.block.disk.on_hold;
   read_only = guest.block.disk.device.read_only;
   identity = guest.block.disk.device.identity;
   block = guest.block.window;

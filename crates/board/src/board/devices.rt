@@ -8,7 +8,7 @@ ghost use Rattle.device_list.specs.List.{is_starved_at, sent_by};
 ghost use Rattle.board.specs.declared.event.DeviceEvent.{DeviceEvent};
 ghost use Rattle.board.specs.declared.event.EventKind.{EventKind};
 ghost use Rattle.board.specs.Devices.{IsPlugRefusal, IsPlugged};
-ghost use Rattle.board.specs.HostedDisks.{disk_in};
+ghost use Rattle.board.specs.Units.{disk_in};
 ghost use Rattle.board.specs.Image.{Tells};
 ghost use Rattle.board.specs.Slot.{BoardSlot};
 ghost use Rattle.board.specs.World.{Answers, KeepsOthers, disturbed_of, extents_of, world_of};

@@ -11,7 +11,7 @@ ghost use Rattle.device_list.specs.Device.{fresh_device};
 ghost use Rattle.device_list.specs.List.{IsRefusedFor, refusal_of};
 ghost use Rattle.board.specs.declared.event.DeviceEvent.{DeviceEvent};
 ghost use Rattle.board.specs.declared.event.EventKind.{EventKind};
-ghost use Rattle.board.specs.HostedDisks.{disk_in};
+ghost use Rattle.board.specs.Units.{disk_in};
 ghost use Rattle.board.specs.InPlace.{event_in};
 ghost use Rattle.board.specs.Lending.{LendsBytes, with_page_bits};
 ghost use Rattle.board.specs.Pausing.{Begins, PausesByLimit, ServesOver, met_in};

@@ -1,24 +1,25 @@
 //! Beside the image: what comes of a slot's events but for the services of disks over it, and, of a slot whose disk the host
 //! serves, the block device's looks at its queue.
 
-ghost use Rattle.std.specs.Prelude.{◌≡◌, ◌≢◌, ◌&&◌, ℕ, List, Some, None, is_err, is_some, IfErr, IfOk, OnErr, IsSome};
+ghost use Rattle.std.specs.Prelude.{◌≡◌, ◌≢◌, ℕ, List, Some, None, false, is_err, is_some, IfErr, IfOk, OnErr, IsSome};
 ghost use Rattle.std.specs.Bool.{OnTrue, OnFalse};
-ghost use Rattle.std.specs.Option.{option_map};
+ghost use Rattle.std.specs.Option.{option_map, option_map_or};
 ghost use Rattle.guest_memory.specs.Memory.{SameRange};
 ghost use Rattle.mmio_window.specs.declared.stage.Stage.{Stage};
 ghost use Rattle.hosted_disk.specs.Told.{has_effect};
-ghost use Rattle.board.specs.Backing.{as_hosted};
 ghost use Rattle.board.specs.declared.event.EventKind.{EventKind};
 ghost use Rattle.board.specs.declared.pause.Pause.{Pause};
 ghost use Rattle.board.specs.declared.pause.Service.{Service};
 ghost use Rattle.board.specs.declared.pause.Turn.{Turn};
 ghost use Rattle.board.specs.declared.reply.Reply.{Reply};
+ghost use Rattle.board.specs.Backing.{is_held};
 ghost use Rattle.board.specs.Flights.{KeepsFlights};
-ghost use Rattle.board.specs.Hosting.{DoesAsHostSays, HoldsFlights, LooksAtQueue, device_at, notifies_block, own_in};
+ghost use Rattle.board.specs.Hosting.{HoldsFlights, LooksAtQueue, device_at, notifies_block};
 ghost use Rattle.board.specs.Image.{Health, sectors_of};
 ghost use Rattle.board.specs.ImageDisks.{image_served_in};
 ghost use Rattle.board.specs.Pausing.{BeginsOverImage, ComesTo, PausesByLimit, ServesTurn, asked_over_image, readied};
 ghost use Rattle.board.specs.Slot.{KeepsPlace, state_of};
+ghost use Rattle.board.specs.Units.{DoesAsSaid, Own};
 ghost use Rattle.board.specs.Within.{BeginsWithinOverImage, PieceWithin};
 ghost use Rattle.board.specs.World.{HasBytesToPutOut, MayLackMemory};
 
@@ -198,7 +199,7 @@ impl<A: Allocator> Slot<A> {
 
     /// What is in flight, with the disk that it is of, where the host serves it.
     pub(crate) fn host(&self) -> Option<&HostedDisk<A>>
-        ensures { option_map (λ disk. disk.now) result ≡ option_map (λ host. as_hosted (own_in self.now)) self.now.host }
+        ensures { option_map (λ disk. disk.now) result ≡ self.now.host }
     {
         self.disk.host()
     }
@@ -212,7 +213,7 @@ impl<A: Allocator> Slot<A> {
 
     /// Whether no further chain of the slot's own disk is taken.
     pub(crate) fn is_on_hold(&self) -> bool
-        ensures { result ≡ self.now.on_hold }
+        ensures { result ≡ is_held self.now.host }
     {
         match self.disk.host() {
             Some(disk) => disk.is_on_hold(),
@@ -240,9 +241,9 @@ impl<A: Allocator> Slot<A> {
     /// Does what the host says of the slot's own disk. False where there is nothing to do: nothing has changed then.
     pub(crate) fn tell(&mut self, said: HostEvent) -> bool
         requires held { HoldsFlights self.old }
-        ensures found { result ≡ (is_some self.old.host && has_effect said (as_hosted (own_in self.old))) }
+        ensures found { result ≡ option_map_or (has_effect said) self.old.host false }
         ensures does { OnTrue result ((image : List ℕ) →
-            DoesAsHostSays said (state_of image self.old) (state_of image self.new)) }
+            DoesAsSaid Own said (state_of image self.old) (state_of image self.new)) }
         ensures kept { OnFalse result (self.new ≡ self.old) }
         ensures held { HoldsFlights self.new }
         ensures place { KeepsPlace self.old self.new }

@@ -7,6 +7,7 @@ ghost use Rattle.mmio_window.specs.Saved.{saved_window, window_restored};
 ghost use Rattle.mmio_window.specs.Soundness.{IsSound};
 ghost use Rattle.device_list.specs.List.{AreSoundDevices, are_at_work};
 ghost use Rattle.device_list.specs.Saved.{RestoresEach};
+ghost use Rattle.board.specs.Backing.{KeepsHost};
 ghost use Rattle.board.specs.Saved.{IsAs, IsCauseOf, IsLike, IsRestored, IsSavedTo, IsSnapshotOf, OffersFeatures, Prevents, SuitsBesideDevices, TakesUp, block_restored, saved_slot, snapshot_of};
 ghost use Rattle.board.specs.declared.event.EventKind.{EventKind};
 ghost use Rattle.board.specs.declared.reply.Reply.{Reply};
@@ -83,7 +84,7 @@ impl<A: Allocator> Slot<A> {
         ensures fault { IfErr result (IsCauseOf self.old from.now) }
         ensures kept { OnErr result (self.new ≡ self.old) }
         ensures place { KeepsPlace self.old self.new }
-        ensures host { self.new.host ≡ self.old.host }
+        ensures host { KeepsHost self.old.host self.new.host }
         ensures memory { self.new.memory ≡ self.old.memory }
         ensures disturbed { self.new.disturbed ≡ self.old.disturbed }
         ensures taken { (slot : BoardSlot) → IsSnapshotOf from.now slot → IsLike slot self.old →
@@ -103,7 +104,7 @@ impl<A: Allocator> Slot<A> {
             MayGiveOverImage (state_of image self.old) (EventKind.Restore from.now) health health
             (replies (state_of image self.new) result) }
         ensures place { KeepsPlace self.old self.new }
-        ensures host { self.new.host ≡ self.old.host }
+        ensures host { KeepsHost self.old.host self.new.host }
         ensures memory { self.new.memory ≡ self.old.memory }
         ensures disturbed { self.new.disturbed ≡ self.old.disturbed }
         ensures there { result ≢ Reply.BadSlot }
@@ -128,7 +129,7 @@ impl<A: Allocator> Slot<A> {
         ensures offers { OffersFeatures self.old }
         ensures kept { OnErr result (self.new ≡ self.old) }
         ensures place { KeepsPlace self.old self.new }
-        ensures host { self.new.host ≡ self.old.host }
+        ensures host { KeepsHost self.old.host self.new.host }
         ensures memory { self.new.memory ≡ self.old.memory }
         ensures disturbed { self.new.disturbed ≡ self.old.disturbed }
     {

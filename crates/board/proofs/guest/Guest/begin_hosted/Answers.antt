@@ -1,15 +1,15 @@
-use Rattle.std.proofs.Common.{◌≡◌, List, ℕ, Bool, Option, false, true, sym, ap, subst, ◌∙◌, refl}
+use Rattle.std.proofs.Common.{◌≡◌, List, ℕ, Bool, false, true, sym, ap, subst, ◌∙◌, refl}
 use Rattle.std.specs.Prelude.{IsSome}
 use Rattle.board.specs.declared.event.EventKind.{EventKind}
 use Rattle.board.specs.declared.event.EventKind.TheVariants.{Host}
 use Rattle.board.specs.declared.reply.Reply.TheVariants.{Busy, Done}
 use Rattle.block_device.specs.Tags.{is_any}
-use Rattle.board.specs.Backing.{HostDisk, tags_in}
+use Rattle.board.specs.Backing.{tags_in}
 use Rattle.board.specs.Hosting.{has_part, must_wait, notifies_block, waits_now}
 use Rattle.board.specs.Outcome.{replies}
 use Rattle.board.specs.Slot.{BoardSlot, state_of}
 use Rattle.board.proofs.Beside.{place_still}
-use Rattle.board.proofs.Flights.{held_beside}
+use Rattle.board.proofs.Flights.{held_beside, still_hosted}
 use Rattle.board.proofs.Hosts.{busy_given, no_part, notified_given, own_of, part_by_host, part_by_ring, part_by_wait, ringing_silent, serves_part, serves_passing, waiting_silent, within_part, within_passing, told_given}
 use Rattle.board.proofs.Ways.{must_by}
 use Rattle.board.proofs.guest.Guest.begin_hosted.Goals as goal
@@ -120,7 +120,7 @@ returns-in-Err g c =
           (state_of image c.look.new.self) Done (g.O.Outlet.bytes c.args.out.now) (part image)
           (notified_given (state_of image slot) (state_of image mid) (state_of image c.look.new.self)
           c.args.what.now health hosted free (rings image) (handled.readied image)
-          (c.look.ensures.looks (subst (λ (h : Option HostDisk). IsSome h) (sym handled.keeps.host) hosted) image)));
+          (c.look.ensures.looks (still_hosted slot.host mid.host handled.keeps.host hosted) image)));
       within = λ image limit limited.
           rw (handled.silent)
           (within_part limit c.args.what.now c.args.budget (state_of image slot)

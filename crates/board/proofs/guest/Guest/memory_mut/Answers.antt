@@ -8,5 +8,5 @@ use Rattle.board.proofs.guest.Guest.memory_mut.Goals as goal
 pub invariant_of-self-lent : goal.invariant_of-self-lent
 invariant_of-self-lent g c w =
     let slot = c.self.inside.slot in
-    held_quietly slot (with_bytes c.args.addr slot w) refl refl (stored_range slot.memory c.args.addr w) refl
+    held_quietly slot (with_bytes c.args.addr slot w) refl (stored_range slot.memory c.args.addr w) refl
     c.self.invariant

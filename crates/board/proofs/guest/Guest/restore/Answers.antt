@@ -1,17 +1,17 @@
 -- While nothing is in flight a restore is what it is over an image.
-use Rattle.std.proofs.Common.{◌≡◌, Option, false, ap, refl, sym, ◌∙◌}
+use Rattle.std.proofs.Common.{◌≡◌, false, ap, refl, sym, ◌∙◌}
 use Rattle.block_device.specs.Tags.{is_any}
 use Rattle.device_list.specs.List.{are_at_work}
-use Rattle.board.specs.Backing.{HostDisk, tags_in}
+use Rattle.board.specs.Backing.{tags_in}
 use Rattle.board.specs.Slot.{BoardSlot, is_at_work, state_of}
-use Rattle.board.proofs.Flights.{held_none}
+use Rattle.board.proofs.Flights.{held_none, same_tags}
 use Rattle.board.proofs.Hosts.{both_idle, restore_answered, restore_busy, restore_passes}
 use Rattle.board.proofs.guest.Guest.restore.Goals as goal
 
 pub invariant_of-self : goal.invariant_of-self
 invariant_of-self g c =
     held_none c.restore.new.self
-    (ap (λ (h : Option HostDisk). is_any (tags_in h)) c.restore.ensures.host
+    (ap is_any (same_tags _ _ c.restore.ensures.host)
     ∙ ap (λ (s : BoardSlot). is_any (tags_in s.host)) c.self.view_is
     ∙ (both_idle (is_any (tags_in c.args.self.now.host)) (are_at_work c.args.self.now.devices)
     (sym c.is_at_work.ensures ∙ c.if-is_at_work.false)).0)

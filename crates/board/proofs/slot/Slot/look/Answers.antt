@@ -17,5 +17,5 @@ pub returns-clause-looks : goal.returns-clause-looks
 returns-clause-looks g c = λ some image.
     let slot : BoardSlot = viewed c.self.view_is in
     rw (← c.self.view_is)
-    (does_to_own LooksAtQueue image slot c.look.new.memory c.look.new.window c.look.new.self
-    (rw (← c.self.view_is) at some) (c.look.ensures.looks (rw (← c.self.view_is) at some)))
+    (does_to_own LooksAtQueue image slot c.look.new.memory c.look.new.window c.look.new.self c.look.ensures.rest
+    (c.look.ensures.looks (rw (← c.self.view_is) at some)))

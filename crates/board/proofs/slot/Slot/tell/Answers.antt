@@ -19,5 +19,5 @@ returns-then-done-clause-does g c =
     let told = c.tell-done in
     let slot : BoardSlot = viewed c.self.view_is in
     rw (← c.self.view_is)
-    (told_to_own (DoesAsTold c.args.said) told.result _ slot told.new.memory told.new.window told.new.self
-    told.ensures.found told.ensures.does)
+    (told_to_own (DoesAsTold c.args.said) told.result slot told.new.memory told.new.window told.new.self
+    told.ensures.rest told.ensures.does)
