@@ -3,7 +3,7 @@ use Rattle.std.proofs.Common.{◌≡◌, Option, Some, None, subst}
 use Rattle.std.specs.Prelude.{IfNone, IfSome, MatchOption}
 use Rattle.std.specs.Option.{option_map}
 use Rattle.session.specs.declared.told.Waits.{Waits}
-use Rattle.board_ffi.specs.declared.pending.Pending.{Pending}
+use Rattle.c_values.specs.declared.pending.Pending.{Pending}
 use Rattle.board_ffi.specs.Calls.{pending_by}
 
 pub tells : {X : Type 0} (o : Option X) (f : X → Waits) (waits : Option Waits) (before after : Pending)

@@ -12,7 +12,7 @@ use Rattle.board.specs.Slot.{interrupt_words}
 use Rattle.session.specs.Session.{SessionState, output_of}
 use Rattle.session.specs.declared.told.Waits.{Waits}
 use Rattle.board_ffi.specs.declared.handle.Handle.{Handle}
-use Rattle.board_ffi.specs.declared.pending.Pending.{Pending}
+use Rattle.c_values.specs.declared.pending.Pending.{Pending}
 use Rattle.board_ffi.specs.Codes.{code_at}
 use Rattle.board_ffi.specs.Handle.{Held}
 pub use Rattle.board.specs.declared.event.EventKind.{EventKind}

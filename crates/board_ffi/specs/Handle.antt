@@ -1,8 +1,6 @@
 -- What a handle holds: a session, or none.
-use base.Stored.{Coded}
 use denote.RattleType.{RattleType}
 use Rattle.std.specs.Prelude.{Option}
-use Rattle.std.specs.Coded.{coded_option}
 use Rattle.std.specs.contracts.alloc.Global as heap
 use Rattle.std.specs.contracts.impls.GlobalAllocator.TheImpl.{ghosts}
 use Rattle.session.specs.contracts.session.Session as session
@@ -15,6 +13,3 @@ session_row = session.the_row heap.the_row ghosts
 -- a session, or none
 abbrev pub Held : Type 0
 Held = Option SessionState
-
-abbrev pub held_coded : Coded Held
-held_coded = coded_option session_row.coded

@@ -1,5 +1,4 @@
 pub mod Handle
-pub mod Lending
 pub mod Codes
 pub mod Events
 pub mod Devices

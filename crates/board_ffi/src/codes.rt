@@ -4,7 +4,7 @@ ghost use Rattle.std.specs.Prelude.{◌≡◌, ◌≢◌, ◌↔◌, IfOk, IsErr
 ghost use Rattle.board.specs.declared.saved.RestoreRefusal.{RestoreRefusal};
 ghost use Rattle.board.specs.declared.saved.SaveRefusal.{SaveRefusal};
 ghost use Rattle.session.specs.declared.refusal.Refusal.{Refusal};
-ghost use Rattle.board_ffi.specs.Codes.{board_code, code_by, fault_code, handed_code, is_saving, progress_code, refusal_code, restore_code, restore_fault_code, save_code, slot_fault_code, went_on_code};
+ghost use Rattle.board_ffi.specs.Codes.{board_code, code_at, code_by, fault_code, handed_code, is_saving, progress_code, refusal_code, restore_code, restore_fault_code, save_code, slot_fault_code, went_on_code};
 
 use c_values::of_memory_fault;
 pub(crate) use c_values::{
@@ -216,5 +216,16 @@ pub(crate) fn of_board_fault(why: BoardFault) -> u32
         BoardFault::Cache(CacheFault::BadCapacity) => BAD_CACHE,
         // All others lack memory.
         _ => NO_MEMORY,
+    }
+}
+
+/// What is answered of a slot, of so many, that has no such device.
+pub(crate) fn no_window(slot: u8, slots: usize) -> u32
+    ensures { result ≡ code_at slot slots 6 }
+{
+    if usize::from(slot) < slots {
+        BAD_WINDOW
+    } else {
+        BAD_SLOT
     }
 }

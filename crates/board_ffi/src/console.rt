@@ -3,11 +3,14 @@
 ghost use Rattle.std.specs.Prelude.{◌≡◌, ◌≢◌, ◌⊎◌};
 ghost use Rattle.board_ffi.specs.Calls.{Calls, EventKind, IsMissing, MovesOutput, PausesBehind, Reply, Takes, Tells};
 
-use crate::answers::console;
+use crate::codes::{BAD_SLOT, DONE, handed, of_done};
 use crate::handle::{Handle, session_of};
-use crate::pending::Pending;
+use crate::pending::tell_waits;
+use c_values::Pending;
+use session::Told;
 
 /// Types bytes to a guest's console, and tells how many were taken, the first ones, and what then waits.
+#[tactic(auto, using(crate::proofs::Telling::tells))]
 #[unsafe(no_mangle)]
 pub extern "C" fn kalyubos_input(
     board: &mut Handle,
@@ -24,10 +27,14 @@ pub extern "C" fn kalyubos_input(
     ensures kept { result ≢ 0 → result ≢ 18 → took.new ≡ took.old }
     ensures pending { Tells slot board.new.session pending.old pending.new }
 {
-    console::input(session_of!(board), slot, bytes, took, pending)
+    let session = session_of!(board);
+    let Told { answer, waits } = session.input(slot, bytes);
+    tell_waits(waits, pending);
+    handed(answer, took)
 }
 
 /// Gives a guest's console another size, of which its driver is told, and tells what then waits.
+#[tactic(auto, using(crate::proofs::Telling::tells))]
 #[unsafe(no_mangle)]
 pub extern "C" fn kalyubos_resize(
     board: &mut Handle,
@@ -40,7 +47,10 @@ pub extern "C" fn kalyubos_resize(
         (Takes slot (EventKind.Resize cols rows) result Reply.Done) }
     ensures pending { Tells slot board.new.session pending.old pending.new }
 {
-    console::resize(session_of!(board), slot, cols, rows, pending)
+    let session = session_of!(board);
+    let Told { answer, waits } = session.resize(slot, cols, rows);
+    tell_waits(waits, pending);
+    of_done(answer)
 }
 
 /// Moves out the first bytes of what a guest's console put out, as many as find room, and tells how many
@@ -59,5 +69,10 @@ pub extern "C" fn kalyubos_take_output(
     ensures kept { result ≢ 0 → taken.new ≡ taken.old }
     ensures kept_into { result ≢ 0 → into.new ≡ into.old }
 {
-    console::take_output(session_of!(board), slot, into, taken)
+    let session = session_of!(board);
+    let Some(count) = session.take_output(slot, into) else {
+        return BAD_SLOT;
+    };
+    *taken = count;
+    DONE
 }

@@ -3,7 +3,7 @@
 ghost use Rattle.std.specs.Prelude.{◌≡◌, ◌≢◌};
 ghost use Rattle.board_ffi.specs.Calls.{Calls, IsMissing, IsThere};
 
-use crate::answers::registers;
+use crate::codes::{BAD_SLOT, DONE};
 use crate::handle::{Handle, session_of};
 use session::Counters;
 
@@ -16,5 +16,10 @@ pub extern "C" fn kalyubos_counters(board: &mut Handle, slot: u8, counters: &mut
         (IsMissing slot result) }
     ensures kept { result ≢ 0 → counters.new ≡ counters.old }
 {
-    registers::counters(session_of!(board), slot, counters)
+    let session = session_of!(board);
+    let Some(counted) = session.counters(slot) else {
+        return BAD_SLOT;
+    };
+    *counters = counted;
+    DONE
 }

@@ -7,8 +7,8 @@ ghost use Rattle.board_ffi.specs.Create.{IsMade, IsRefusal, Refuses, TakesFront,
 use crate::codes::{BAD_SIZE, DONE, HAS_BOARD, NO_BOARD, RUNS_ON, of_fault};
 use crate::config::{Config, is_sized};
 use crate::handle::Handle;
-use crate::loans::taken;
 use crate::slot::{are_devices, are_image_disks, are_outlets, guests, stand_still};
+use c_values::taken;
 use sector_cache::are_whole_sectors;
 use session::{Session, SessionFault};
 use std::alloc::Global;

@@ -3,12 +3,13 @@
 ghost use Rattle.std.specs.Prelude.{◌≡◌, ◌≢◌, length};
 ghost use Rattle.board.specs.declared.event.DeviceEvent.{DeviceEvent};
 ghost use Rattle.board_ffi.specs.Calls.{AtDevice, EventKind, HasDevicePending, IsNoDevice, IsTooShort, PausesBehind, Reply, Takes, TakesFrame};
-ghost use Rattle.board_ffi.specs.Devices.{count_of};
+ghost use Rattle.board_ffi.specs.Devices.{count_of, pending_of_device};
 
-use crate::answers::devices;
-use crate::codes::BAD_WINDOW;
+use crate::codes::{BAD_WINDOW, DONE, handed, no_window, of_done, of_progress, of_refusal};
+use crate::frame::take_frame;
 use crate::handle::{Handle, session_of};
 use crate::window::device_numbered;
+use session::DeviceWaits;
 
 /// What waits for a further device's driver and for its host.
 #[derive(Clone, Copy, Debug, PartialEq, Eq)]
@@ -25,6 +26,21 @@ pub struct DevicePending {
     pub frame: u64,
     /// What is in flight of a disk: bit n is set where tag n is. It is 0 of another device.
     pub tags: u64,
+}
+
+impl DevicePending {
+    // What waits, as C has it.
+    fn of(waits: DeviceWaits) -> DevicePending
+        ensures { result ≡ pending_of_device waits }
+    {
+        DevicePending {
+            interrupt: u32::from(waits.irq),
+            starved: waits.starved,
+            padding: [0; 3],
+            frame: waits.sent.unwrap_or(0) as u64,
+            tags: waits.tags,
+        }
+    }
 }
 
 /// Supplies an entropy device with bytes, or types to a console, and tells how many bytes it took, the first ones.
@@ -45,7 +61,8 @@ pub extern "C" fn kalyubos_supply(
     let Some(device) = device_numbered(window) else {
         return BAD_WINDOW;
     };
-    devices::supply(session_of!(board), slot, device, bytes, taken)
+    let session = session_of!(board);
+    handed(session.supply(slot, device, bytes), taken)
 }
 
 /// Hands a network card a frame, and tells whether it was taken: whole, or not at all.
@@ -67,7 +84,14 @@ pub extern "C" fn kalyubos_receive(
     let Some(device) = device_numbered(window) else {
         return BAD_WINDOW;
     };
-    devices::receive(session_of!(board), slot, device, frame, taken)
+    let session = session_of!(board);
+    match session.receive(slot, device, frame) {
+        Ok(handed) => {
+            *taken = handed.taken == frame.len();
+            of_progress(handed.progress)
+        }
+        Err(why) => of_refusal(why),
+    }
 }
 
 /// Moves out what a device's driver sent, whole: the oldest frame of a network card, or all output of a console. Tells how many bytes
@@ -91,7 +115,7 @@ pub extern "C" fn kalyubos_take_frame(
     let Some(device) = device_numbered(window) else {
         return BAD_WINDOW;
     };
-    devices::take_frame(session_of!(board), slot, device, into, len)
+    take_frame(session_of!(board), slot, device, into, len)
 }
 
 /// Sets whether a network card's link is up, of which its driver is told.
@@ -103,7 +127,8 @@ pub extern "C" fn kalyubos_set_link(board: &mut Handle, slot: u8, window: u8, up
     let Some(device) = device_numbered(window) else {
         return BAD_WINDOW;
     };
-    devices::set_link(session_of!(board), slot, device, up)
+    let session = session_of!(board);
+    of_done(session.set_link(slot, device, up))
 }
 
 /// Changes the size of a further console, of which its driver is told.
@@ -121,7 +146,8 @@ pub extern "C" fn kalyubos_resize_device(
     let Some(device) = device_numbered(window) else {
         return BAD_WINDOW;
     };
-    devices::resize(session_of!(board), slot, device, cols, rows)
+    let session = session_of!(board);
+    of_done(session.resize_device(slot, device, cols, rows))
 }
 
 /// Tells what waits for a further device's driver and for its host.
@@ -141,5 +167,10 @@ pub extern "C" fn kalyubos_device_pending(
     let Some(device) = device_numbered(window) else {
         return BAD_WINDOW;
     };
-    devices::device_pending(session_of!(board), slot, device, pending)
+    let session = session_of!(board);
+    let Some(waits) = session.device_waits(slot, device) else {
+        return no_window(slot, session.slots());
+    };
+    *pending = DevicePending::of(waits);
+    DONE
 }

@@ -1,59 +1,18 @@
-//! A disk that the host serves: what the board asks of it, and what the host did.
+//! What the host did of what its disk was asked for, and what else it says of the disk.
 
-ghost use Rattle.std.specs.Prelude.{◌≡◌, ◌≢◌};
+ghost use Rattle.std.specs.Prelude.{◌≡◌, is_some, length};
 ghost use Rattle.block_device.specs.declared.operation.HostEvent.{HostEvent};
-ghost use Rattle.board_ffi.specs.Calls.{AtDisk, Calls, Completes, HasInFlight, IsAskedFor, IsAtRest, IsNoDisk, Says, Tells, TellsOf};
+ghost use Rattle.board_ffi.specs.Calls.{AtDisk, Calls, Completes, Says, Tells, TellsOf};
+ghost use Rattle.board_ffi.specs.Codes.{code_at};
+ghost use Rattle.board_ffi.specs.Disk.{flight_of};
 
-use crate::answers::disk;
+use crate::codes::{no_window, of_served};
 use crate::handle::{Handle, session_of};
-use crate::pending::Pending;
+use crate::operation::at_rest;
+use crate::pending::{tell, tell_waits};
 use crate::window::disk_numbered;
-use c_values::{Operation, Run};
-use session::{HostEvent, Session};
-
-/// Tells which tags of a guest's disk are in flight: bit n is set where tag n is.
-#[unsafe(no_mangle)]
-pub extern "C" fn kalyubos_in_flight(
-    board: &mut Handle,
-    slot: u8,
-    window: u8,
-    tags: &mut u64,
-) -> u32
-    ensures told { result ≡ 0 → Calls board.old.session board.new.session result
-        (AtDisk window slot result (HasInFlight slot tags.new)) }
-    ensures missing { result ≢ 0 → Calls board.old.session board.new.session result
-        (AtDisk window slot result (IsNoDisk slot result)) }
-    ensures kept { result ≢ 0 → tags.new ≡ tags.old }
-{
-    let session = session_of!(board);
-    match disk_numbered(window) {
-        Some(disk) => disk::in_flight(session, slot, disk, tags),
-        None => disk::no_disk(slot, session.slots()),
-    }
-}
-
-/// Tells what is in flight of a guest's disk with this tag: the operation, and the first of its runs, as many as find room.
-#[unsafe(no_mangle)]
-pub extern "C" fn kalyubos_operation(
-    board: &mut Handle,
-    slot: u8,
-    window: u8,
-    tag: u8,
-    operation: &mut Operation,
-    runs: &mut [Run],
-) -> u32
-    ensures told { result ≡ 0 → Calls board.old.session board.new.session result
-        (AtDisk window slot result (IsAskedFor slot tag operation.new runs.old runs.new)) }
-    ensures rests { result ≢ 0 → Calls board.old.session board.new.session result
-        (AtDisk window slot result (IsAtRest slot tag result)) }
-    ensures kept { result ≢ 0 → (operation.new ≡ operation.old) × (runs.new ≡ runs.old) }
-{
-    let session = session_of!(board);
-    match disk_numbered(window) {
-        Some(disk) => disk::operation(session, slot, disk, tag, operation, runs),
-        None => disk::no_disk(slot, session.slots()),
-    }
-}
+use c_values::{Pending, verdict};
+use session::{HostEvent, Session, SlotDisk, Told};
 
 /// Completes what is in flight of a guest's disk with this tag, which was done or failed, and tells what then waits.
 #[unsafe(no_mangle)]
@@ -71,8 +30,8 @@ pub extern "C" fn kalyubos_completed(
 {
     let session = session_of!(board);
     match disk_numbered(window) {
-        Some(disk) => disk::completed(session, slot, disk, tag, failed, pending),
-        None => disk::of_no_disk(session, slot, pending),
+        Some(disk) => completed(session, slot, disk, tag, failed, pending),
+        None => of_no_disk(session, slot, pending),
     }
 }
 
@@ -133,7 +92,70 @@ fn say(session: &mut Session, slot: u8, window: u8, said: HostEvent, pending: &m
     ensures pending { TellsOf slot session.new pending.old pending.new }
 {
     match disk_numbered(window) {
-        Some(disk) => disk::told(session, slot, disk, said, pending),
-        None => disk::of_no_disk(session, slot, pending),
+        Some(disk) => told(session, slot, disk, said, pending),
+        None => of_no_disk(session, slot, pending),
     }
+}
+
+// Completes what is in flight of a disk with this tag, which was done or failed.
+#[tactic(auto, using(crate::proofs::Telling::tells))]
+fn completed(
+    session: &mut Session,
+    slot: u8,
+    disk: SlotDisk,
+    tag: u8,
+    failed: bool,
+    pending: &mut Pending,
+) -> u32
+    ensures completes { Completes slot tag failed result disk session.old session.new }
+    ensures pending { TellsOf slot session.new pending.old pending.new }
+{
+    if !is_in_flight(session, slot, disk, tag) {
+        tell(session, slot, pending);
+        return at_rest(session, slot, disk);
+    }
+    let verdict = verdict(failed);
+    told(
+        session,
+        slot,
+        disk,
+        HostEvent::Complete { tag, verdict },
+        pending,
+    )
+}
+
+// Whether anything is in flight of a disk with this tag.
+fn is_in_flight(session: &Session, slot: u8, disk: SlotDisk, tag: u8) -> bool
+    ensures { result ≡ is_some (flight_of slot disk tag session.now.slots) }
+{
+    match session.disk(slot, disk) {
+        Some(found) => found.operation(tag).is_some(),
+        None => false,
+    }
+}
+
+// The host says this of a disk. What then waits is told.
+#[tactic(auto, using(crate::proofs::Telling::tells))]
+fn told(
+    session: &mut Session,
+    slot: u8,
+    disk: SlotDisk,
+    said: HostEvent,
+    pending: &mut Pending,
+) -> u32
+    ensures says { Says slot said result disk session.old session.new }
+    ensures pending { TellsOf slot session.new pending.old pending.new }
+{
+    let Told { answer, waits } = session.tell(slot, disk, said);
+    tell_waits(waits, pending);
+    of_served(answer)
+}
+
+// What is answered of a slot that has no such disk, with what waits.
+fn of_no_disk(session: &Session, slot: u8, pending: &mut Pending) -> u32
+    ensures code { result ≡ code_at slot (length session.now.slots) 6 }
+    ensures pending { TellsOf slot session.now pending.old pending.new }
+{
+    tell(session, slot, pending);
+    no_window(slot, session.slots())
 }

@@ -4,8 +4,7 @@ ghost use Rattle.std.specs.Prelude.{◌≡◌, ◌≢◌};
 ghost use Rattle.board_ffi.specs.Calls.{AtWindow, IsMissing, IsThere};
 ghost use Rattle.c_values.specs.Faults.{IsTold};
 
-use crate::answers::registers;
-use crate::codes::BAD_WINDOW;
+use crate::codes::{BAD_SLOT, BAD_WINDOW, DONE};
 use crate::handle::{Handle, session_of};
 use crate::window::window_numbered;
 use c_values::Fault;
@@ -27,5 +26,10 @@ pub extern "C" fn kalyubos_last_fault(
     let Some(window) = window_numbered(window) else {
         return BAD_WINDOW;
     };
-    registers::last_fault(session_of!(board), slot, window, fault)
+    let session = session_of!(board);
+    if usize::from(slot) >= session.slots() {
+        return BAD_SLOT;
+    }
+    *fault = Fault::of(session.last_fault(slot, window));
+    DONE
 }

@@ -4,33 +4,22 @@
 //! `Parts::end` gives all their memory back.
 
 ghost use Rattle.std.specs.Prelude.{◌≡◌, Some, None, MatchOption};
-ghost use Rattle.std.specs.Borrow.{sem};
-ghost use Rattle.c_values.specs.Handle.{held};
-ghost use Rattle.board_ffi.specs.Handle.{Held, held_coded, session_row};
+ghost use Rattle.std.specs.Borrow.{LendsIf, sem};
+ghost use Rattle.c_values.specs.Handle.{held, held_coded};
+ghost use Rattle.board_ffi.specs.Handle.{Held, session_row};
 
 use c_values::Parts;
+pub(crate) use c_values::session_of;
 use session::Session;
 use std::alloc::Global;
 use std::marker::Model;
-
-/// The session of a handle. Where there is none, the call that asks for it answers NO_BOARD.
-macro_rules! session_of {
-    ($board:ident) => {
-        match $board.session() {
-            Some(session) => session,
-            None => return $crate::codes::NO_BOARD,
-        }
-    };
-}
-
-pub(crate) use session_of;
 
 /// A session, or none.
 #[repr(C)]
 pub struct Handle {
     at: *mut u8,
     alloc: Global,
-    pub ghost session: { Held } by { held_coded },
+    pub ghost session: { Held } by { held_coded session_row },
 }
 
 impl Model for Handle {
@@ -38,12 +27,13 @@ impl Model for Handle {
 }
 
 impl Handle {
-    ghost use Rattle.board_ffi.specs.Lending.{LendsSession};
+    ghost use Rattle.board_ffi.specs.contracts.handle.Handle.{the_row};
 
     /// The session, if there is one.
     #[inline]
     pub(crate) fn session(&mut self) -> Option<&mut Session>
-        ensures* lends { sem 𝓛 (LendsSession self.entry result) }
+        ensures* lends { sem 𝓛 (LendsIf the_row session_row self.entry result
+            (λ session. record self.entry.now { session = Some session }) self.entry.now) }
         ensures there { MatchOption result (self.old.session ≡ None)
             (λ lent. self.old.session ≡ Some lent.now) }
     {

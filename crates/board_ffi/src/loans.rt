@@ -1,30 +1,11 @@
-//! The bytes of guests' memories, as C lends them.
+//! Whether the host lends a run of bytes for each region.
 
-ghost use Rattle.std.specs.Prelude.{◌≡◌, ◌↔◌, [], All, length, map, take, IfOk, IsTrue, OnOk};
-ghost use Rattle.std.specs.Vec.{vec_items};
-ghost use Rattle.board_ffi.specs.Config.{AreLent, guests_of, lent_bytes, region_lens, told_lens};
-ghost use Rattle.board_ffi.specs.Create.{TakesFront};
+ghost use Rattle.std.specs.Prelude.{◌≡◌, ◌↔◌, length, map, take, IsTrue};
+ghost use Rattle.board_ffi.specs.Config.{AreLent, guests_of, region_lens, told_lens};
 
 use crate::config::ToldLoan;
 use c_values::{Slot, regions};
-use guest_bytes::Loan;
 use guest_memory::RegionSpec;
-use std::alloc::{AllocError, Global};
-use std_alloc::vec::Lodged;
-
-/// The bytes of all loans in their order, in whose places are then empty ones. Where there is no memory for their list,
-/// only the first may be taken.
-pub(crate) fn taken(alloc: Global, loans: &mut [Loan]) -> Result<Vec<Vec<u8, Lodged>>, AllocError>
-    ensures taken { IfOk result (λ bytes. map vec_items bytes.items ≡ lent_bytes loans.old) }
-    ensures left { OnOk result (All (λ loan. loan.items ≡ []) loans.new) }
-    ensures front { TakesFront loans.old loans.new }
-{
-    let mut bytes = Vec::with_capacity(alloc, loans.len())?;
-    for place in 0..loans.len() {
-        bytes.push(loans[place].take())?;
-    }
-    Ok(bytes)
-}
 
 /// Whether there are no loans, or one for each region of the slots, in their order and as long as it is.
 pub(crate) fn are_lent(slots: &[Slot], loans: &[ToldLoan]) -> bool

@@ -3,7 +3,7 @@
 ghost use Rattle.std.specs.Prelude.{◌≡◌, ◌≢◌};
 ghost use Rattle.board_ffi.specs.Calls.{Calls, IsMissing, KeepsPages};
 
-use crate::answers::memory;
+use crate::codes::{BAD_SLOT, DONE};
 use crate::handle::{Handle, session_of};
 use guest_bytes::Loan;
 
@@ -15,5 +15,10 @@ pub extern "C" fn kalyubos_keep_pages(board: &mut Handle, slot: u8, bits: Loan) 
     ensures missing { result ≢ 0 → Calls board.old.session board.new.session result (IsMissing slot result) }
 {
     let bits = bits.into_bytes();
-    memory::keep_pages(session_of!(board), slot, bits)
+    let session = session_of!(board);
+    if session.keep_pages(slot, bits) {
+        DONE
+    } else {
+        BAD_SLOT
+    }
 }

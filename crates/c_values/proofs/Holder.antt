@@ -1,9 +1,8 @@
 -- A struct of a pointer and of the heap, which holds a value of some type or none, and what the walks through its functions share.
 --     Holder           row, laws        the type of what is held
---                      name, D          the struct's name and its values
+--                      name, holder     the struct's name and its row
 --                      holds, make      the pointer, the heap and what is held of a value, and the value of these
---                      coded, shr_at    those of the struct's row
---     H, E, Of         the struct's row; a box of what is held; the parts of one
+--     H, E, Of         the struct's row, of these; a box of what is held; the parts of one
 --     own              what is owned of a pointer, the heap and what is held
 --     handle_out       a handle by value: [what lies behind the pointer; the heap]
 --     made_in, empty_in     a handle that is made; what an empty one owns, of the heap
@@ -20,7 +19,6 @@ use mir.Val.{Val, vnull, vstruct, of_list}
 use base.Fraction.{full_share}
 use base.Fml.{Fml, Lft, GName, Share, ftrue, flft, fsep, fobs, fauth, fbor, fobor}
 use base.Logic.{SProp, ent, guard, guard_i, never_e, snd∗, via}
-use base.Stored.{Coded}
 use contract.Monad.{fact_use}
 use types.Logic.{Logic, sem}
 use types.SemTy.{Body}
@@ -62,13 +60,10 @@ pub record Holder : Type 2 where
   pub row : RattleType
   pub laws : Laws (single row)
   pub name : Sym
-  pub D : Type 0
-  pub holds : D → Held row
-  pub make : Held row → D
-  pub eta : (d : D) → make (holds d) ≡ d
+  pub holder : RattleType
+  pub holds : holder.Denot → Held row
+  pub make : Held row → holder.Denot
   pub beta : (t : Held row) → holds (make t) ≡ t
-  pub coded : Coded D
-  pub shr_at : D → ℕ → ℕ → Lft → Fml
 
 abbrev pub word : Ptr → Val → Val
 word p hv = vstruct (of_list (ptr_val p ∷ hv ∷ []))
@@ -96,12 +91,12 @@ module _ (S : Holder) where
     args = [];
     types = [];
     parts = its_parts;
-    D = S.D;
+    D = S.holder.Denot;
     as_values = λ d. ((S.holds d).0, ((S.holds d).1.0, tt));
-    coded = S.coded;
+    coded = S.holder.coded;
     heap = λ d. held X (S.holds d).1.0 (S.holds d).0 (S.holds d).1.1;
     exit = λ k. hidden (under (λ d. pointer (S.holds d)) (exits_of k (rows its_parts)));
-    shr_at = S.shr_at;
+    shr_at = S.holder.shr_at;
   }
 
   abbrev pub H : RattleType
@@ -150,11 +145,11 @@ module _ (S : Holder) where
       (dealloc_token-Testable 𝓛 a (bare (lone X.mir)) p)) (guard_i 𝓤 (Testable p) owns)
 
   module _ {M : Type 1} {𝓤 : Ura M} {𝓛 : Logic 𝓤} {K : Type 0} {Γ : List (Item 𝓤)} {G : Goal 𝓤 𝓛.H} where
-    pub handle_opens : K → Soaks G → {κ : Lft} {q : Share} {γ : GName} (d : S.D) (rb ro : ℕ)
+    pub handle_opens : K → Soaks G → {κ : Lft} {q : Share} {γ : GName} (d : S.holder.Denot) (rb ro : ℕ)
         → ((hv : Val) → Fits E.al hv → let t = S.holds d in Seq K 𝓛 (‵ (held X t.1.0 t.0 t.1.1) ∷ ‵ (handle E t.1.0 hv)
         ∷ ‵ (cell_at full_share H.mir (word t.0 hv ∷ []) rb ro) ∷ ‵ (fobor κ q (Body (mem H) rb ro γ))
-        ∷ ‵ (fobs γ (S.coded.code d)) ∷ ‵ (fauth γ (S.coded.code d)) ∷ Γ) G)
-        → Seq K 𝓛 (‵ (fobs γ (S.coded.code d)) ∷ ‵ (fbor κ (Body (mem H) rb ro γ)) ∷ ‵ (flft κ q) ∷ Γ) G
+        ∷ ‵ (fobs γ (S.holder.coded.code d)) ∷ ‵ (fauth γ (S.holder.coded.code d)) ∷ Γ) G)
+        → Seq K 𝓛 (‵ (fobs γ (S.holder.coded.code d)) ∷ ‵ (fbor κ (Body (mem H) rb ro γ)) ∷ ‵ (flft κ q) ∷ Γ) G
     handle_opens k z d rb ro go =
         opens k z H {h = d} rb ro (λ vs. move k (1 ∷ []) $ handle_out k (S.holds d) vs (λ hv ws fa.
         rewrite k 2 (λ (us : List Val). ‵ (cell_at full_share H.mir us rb ro)) ws refl $ go hv fa))

@@ -95,7 +95,7 @@ module _ (S : Holder) where
   stayed = (stay_dropped (mut_ref_to (0 ∷ []) tt (plain (λ _. H S))) no, tt)
 
   -- the holder of another value
-  abbrev with_held : S.D → (X S).Denot → S.D
+  abbrev with_held : S.holder.Denot → (X S).Denot → S.holder.Denot
   with_held h x = S.make ((S.holds h).0, ((S.holds h).1.0, Some x))
 
   module _ {M : Type 1} {𝓤 : Ura M} (𝓛 : Logic 𝓤) where
@@ -111,11 +111,11 @@ module _ (S : Holder) where
           (λ lent. (S.holds args.0.now).1.1 ≡ Some lent.now)));
     }
 
-    module _ (κ : Lft) (q : Share) (rb ro : ℕ) (γ : GName) (h : S.D) where
+    module _ (κ : Lft) (q : Share) (rb ro : ℕ) (γ : GName) (h : S.holder.Denot) where
       abbrev t : Held (X S)
       t = S.holds h
 
-      abbrev self : MutBor S.D
+      abbrev self : MutBor S.holder.Denot
       self = record { ref_ptr = (rb, ro); ghost_name = γ; now = h }
 
       abbrev bound : (walk_of 𝓛 ended stayed clauses).Ghost
@@ -129,11 +129,11 @@ module _ (S : Holder) where
 
       -- nothing is lent
       leaves : t.1.1 ≡ None
-          → ent 𝓤 (sep 𝓤 (A.obs γ (S.coded.code h)) (A.lft κ q)) (Post (live 0 (of_list [])))
+          → ent 𝓤 (sep 𝓤 (A.obs γ (S.holder.coded.code h)) (A.lft κ q)) (Post (live 0 (of_list [])))
       unfolding follows_by
       leaves none =
-          qed 𝓛 (‵ (fobs γ (S.coded.code h)) ∷ ‵ (flft κ q) ∷ []) ∵
-          use1 𝓛 (‵ (fres γ (S.coded.code h))) (𝓛.names.obs-res γ (S.coded.code h)) $ move ! (1 ∷ []) $
+          qed 𝓛 (‵ (fobs γ (S.holder.coded.code h)) ∷ ‵ (flft κ q) ∷ []) ∵
+          use1 𝓛 (‵ (fres γ (S.holder.coded.code h))) (𝓛.names.obs-res γ (S.holder.coded.code h)) $ move ! (1 ∷ []) $
           use0 𝓛 (‵ ((OP.the_row Lent).own_val None (live 0 (of_list []) ∷ []))) (none_of 𝓛 Lent) $
           suffices ! _ (ends_at 𝓛 ended stayed clauses bound (live 0 (of_list [])) None (tt, tt) (tt, tt)) $
           nothing ! $ nothing ! $ fjoin ! $ join ! $ nothing ! $ move ! (2 ∷ 0 ∷ []) $ join ! $ join ! $
@@ -232,7 +232,7 @@ module _ (S : Holder) where
             (sem 𝓛 (Rest b o hv)) (back b o hv at_b) x γ'))))
             (lends_Part 𝓛 (H S) (X S) (with_held h) (named 0) κ q rb ro b o γ
             (sem 𝓛 (Rest b o hv)) (back b o hv at_b)
-            (S.coded.code h) (S.coded.code h) x) $ await ! tt $ pick ! (λ γ'.
+            (S.holder.coded.code h) (S.holder.coded.code h) x) $ await ! tt $ pick ! (λ γ'.
             returns ! (look_at ! 0 refl) $ free_all ! refl $ keep ! (0 ∷ []) $ by ! (exits b o hv x is γ'))))))
 
   pub lends : {M : Type 1} (𝓤 : Ura M) (𝓛 : Logic 𝓤) (𝓜 : Model 𝓤 𝓛.H) (𝓡 : Running 𝓤 𝓛.H 𝓜) (name : Callee)

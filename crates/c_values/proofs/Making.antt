@@ -27,14 +27,14 @@ use Rattle.guest_bytes.proofs.Walking.{called, fn_of, Ensures, Walk, walks_by_va
 use Rattle.c_values.proofs.Holder.{Holder, Held, E, H, X, Of, own, word, empty_in, made_in}
 
 module _ (S : Holder) where
-  abbrev Empty : Heap.the_row.Denot → S.D → Type 0
+  abbrev Empty : Heap.the_row.Denot → S.holder.Denot → Type 0
   Empty alloc handle = (S.holds handle).1.1 ≡ None
 
   abbrev emptying : Fn
   emptying = fn_of 1 (local (lone (H S).mir) value_local ∷ local (lone Heap.the_row.mir) value_local ∷ [])
       (seq (assign (place 0 []) (aggregate (int w64 0 ∷ copy (place 1 []) ∷ []))) return)
 
-  abbrev Full : (Of S).Denot → S.D → Type 0
+  abbrev Full : (Of S).Denot → S.holder.Denot → Type 0
   Full parts handle = (S.holds handle).1.1 ≡ Some parts.value
 
   abbrev filling : Fn

@@ -54,11 +54,11 @@ module _ (S : Holder) where
   abbrev To : RattleType
   To = OP.the_row (Of S)
 
-  abbrev Said : S.D → To.Denot → Type 0
+  abbrev Said : S.holder.Denot → To.Denot → Type 0
   Said handle res = MatchOption res ((S.holds handle).1.1 ≡ None) (λ parts. (S.holds handle).1.1 ≡ Some parts.value)
 
   module _ {M : Type 1} {𝓤 : Ura M} (𝓛 : Logic 𝓤) (𝓣 : Tables 𝓤 𝓛.H) where
-    module _ (handle' : S.D) (Post : Val → SProp 𝓤) (ends : Ends (H S) To Said 𝓤 𝓛 handle' Post) where
+    module _ (handle' : S.holder.Denot) (Post : Val → SProp 𝓤) (ends : Ends (H S) To Said 𝓤 𝓛 handle' Post) where
       abbrev d : Held (X S)
       d = S.holds handle'
 

@@ -79,3 +79,14 @@ pub fn of_memory_fault(why: MemoryFault) -> u32
         MemoryFault::NoMemory => NO_MEMORY,
     }
 }
+
+/// What a handle holds. Where that is nothing, the call that asks for it answers NO_BOARD.
+#[macro_export]
+macro_rules! session_of {
+    ($handle:ident) => {
+        match $handle.session() {
+            Some(session) => session,
+            None => return $crate::NO_BOARD,
+        }
+    };
+}

@@ -1,11 +1,10 @@
 -- A struct that C hands over: a pointer and a length, and what it owns there.
 --     Loan             of                 what it lends
---                      name, D            the struct's name and its values
+--                      name, row          the struct's name and its row
 --                      place, len, items  of a value the pointer, the length, and what lies there
 --                      sized, small       its invariant
 --                      none, is_none      a loan of nothing, at null
---                      coded, shr_at      those of the struct's row
---     H                the struct's row
+--     H                the struct's row, of these
 --     word             its machine value
 --     empties          a function that makes a loan of nothing: it puts null beside no length. Assumes `Logic`
 use mathlib.Core.Path.{◌≡◌, refl, sym}
@@ -13,8 +12,7 @@ use mathlib.Core.List.{List, [], ◌∷◌}
 use Prim.Native.Nat.{ℕ, ◌^◌}
 use mir.Syntax.{Sym, w64, Callee, Fn, local, value_local, place, int, aggregate, assign, seq, return}
 use mir.Val.{Val, vint, vstruct, of_list, vnull}
-use base.Fml.{Fml, Lft, ftrue, fsep}
-use base.Stored.{Coded}
+use base.Fml.{Fml, ftrue, fsep}
 use denote.Exit.{under, hidden}
 use denote.RattleType.{RattleType, Denots, Valss}
 use denote.RawPtr.{Ptr, null_ptr, ptr_val}
@@ -48,16 +46,14 @@ use Rattle.guest_bytes.proofs.Walking.{called, fn_of, walked_through}
 pub record Loan : Type 2 where
   pub of : Lendable
   pub name : Sym
-  pub D : Type 0
-  pub place : D → Ptr
-  pub len : D → ℕ
-  pub items : D → List of.named.Denot
-  pub sized : (d : D) → length (items d) ≡ len d
-  pub small : (d : D) → of.IsSmall (len d)
-  pub none : D
+  pub row : RattleType
+  pub place : row.Denot → Ptr
+  pub len : row.Denot → ℕ
+  pub items : row.Denot → List of.named.Denot
+  pub sized : (d : row.Denot) → length (items d) ≡ len d
+  pub small : (d : row.Denot) → of.IsSmall (len d)
+  pub none : row.Denot
   pub is_none : (place none ≡ null_ptr) × (len none ≡ 0) × (items none ≡ [])
-  pub coded : Coded D
-  pub shr_at : D → ℕ → ℕ → Lft → Fml
 
 abbrev pub word : Ptr → ℕ → Val
 word p n = vstruct (of_list (ptr_val p ∷ vint w64 n ∷ []))
@@ -75,12 +71,12 @@ module _ (S : Loan) where
     args = [];
     types = [];
     parts = parts;
-    D = S.D;
+    D = S.row.Denot;
     as_values = λ d. (S.place d, (S.len d, tt));
-    coded = S.coded;
+    coded = S.row.coded;
     heap = λ d. loaned S.of.named (S.place d) (S.len d) (S.items d);
     exit = λ k. hidden (under (λ d. fields (S.place d) (S.len d)) (exits_of k (rows parts)));
-    shr_at = S.shr_at;
+    shr_at = S.row.shr_at;
   }
 
   abbrev pub H : RattleType

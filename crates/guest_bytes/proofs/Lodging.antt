@@ -25,9 +25,6 @@ use Rattle.std_alloc.proofs.vec.lodged.Lodged.TheLaws as lodged-laws
 abbrev pub Lent : RattleType → RattleType
 Lent R = V.the_row R L.the_row ghosts
 
-abbrev pub lent-laws : (R : RattleType) → Laws R → Laws (Lent R)
-lent-laws R laws = vec_laws.the_row_laws R L.the_row ghosts laws lodged-laws.the_row_laws
-
 -- a machine value of that type
 abbrev pub Good : RattleType → Val → Type 0
 Good R v = T (has_ty (layout (Lent R)) v) × WT v
@@ -47,7 +44,7 @@ module _ (R : RattleType) (laws : Laws R) {M : Type 1} {𝓤 : Ura M} {𝓛 : Lo
       await t z $ pick t (λ r. split t $ move t (1 ∷ []) $ pick t (λ ws. split t $ drop t $ heard t (φ r) (λ is.
       split t $ move t (1 ∷ []) $ handle_tells (record {
         row = Lent R;
-        laws = lent-laws R laws;
+        laws = vec_laws.the_row_laws R L.the_row ghosts laws lodged-laws.the_row_laws;
         g = record { dealloc_token = λ a τ p. ftrue };
         d = dict_at 0;
         drops = dict_at 0;

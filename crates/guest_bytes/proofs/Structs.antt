@@ -12,7 +12,7 @@ abbrev pub byte_loan : Loan
 byte_loan = record {
   of = bytes;
   name = bytes_of.struct.name;
-  D = bytes_of.the_row.Denot;
+  row = bytes_of.the_row;
   place = λ d. d.bytes;
   len = λ d. d.len;
   items = λ d. d.items;
@@ -20,15 +20,13 @@ byte_loan = record {
   small = λ d. d.small;
   none = record { bytes = null_ptr; len = 0; items = []; sized = refl; small = lit< tt };
   is_none = (refl, refl, refl);
-  coded = bytes_of.the_row.coded;
-  shr_at = bytes_of.the_row.shr_at;
 }
 
 abbrev pub word_loan : Loan
 word_loan = record {
   of = words;
   name = words_of.struct.name;
-  D = words_of.the_row.Denot;
+  row = words_of.the_row;
   place = λ d. d.words;
   len = λ d. d.len;
   items = λ d. d.items;
@@ -36,6 +34,4 @@ word_loan = record {
   small = λ d. d.small;
   none = record { words = null_ptr; len = 0; items = []; sized = refl; small = lit< tt };
   is_none = (refl, refl, refl);
-  coded = words_of.the_row.coded;
-  shr_at = words_of.the_row.shr_at;
 }

@@ -1,6 +1,6 @@
 -- A function that lends what a loan owns: it takes the loan apart, and hands pointer and length to `lend_run`. The pointer is cast where C
 -- has it at another type. Assumes `Logic`.
-use Rattle.std.proofs.Common.{◌≡◌, ℕ, Bool, true, false, ◌^◌, ◌<◌, List, [], ◌∷◌, ◌++◌, length, refl, sym, ap, ◌∙◌, subst}
+use Rattle.std.proofs.Common.{◌≡◌, ℕ, Bool, true, false, ◌^◌, ◌<◌, List, [], ◌∷◌, ◌++◌, refl, ap, ◌∙◌}
 use seplogic.Ra.Ura.{Ura}
 use lib.Dec.{T, lit<}
 use mir.Syntax.{Body, Callee, Fn, Local, local, value_local, place, field, copy, call, block, rv_opd, assign, seq, return, ty_int, ty_ptr, w64}
@@ -66,12 +66,12 @@ module _ (S : Loan) where
   abbrev To : RattleType
   To = Lent S.of.named
 
-  abbrev Said : S.D → To.Denot → Type 0
-  Said d res = S.of.Tells (length (S.items d)) (S.items d) res.items
+  abbrev Said : S.row.Denot → To.Denot → Type 0
+  Said d res = res.items ≡ S.items d
 
   module _ {M : Type 1} {𝓤 : Ura M} (𝓛 : Logic 𝓤) (at_mem : Memory → SProp 𝓤) (run : Routine → Fun 𝓤)
       (𝓣 : Tables 𝓤 𝓛.H) (called : Triple 𝓤 (𝓣.C (run_name (args S.of))) (Runs S.of 𝓛 at_mem run)) where
-    module _ (d : S.D) (Post : Val → SProp 𝓤) (ends : Ends (H S) To Said 𝓤 𝓛 d Post) where
+    module _ (d : S.row.Denot) (Post : Val → SProp 𝓤) (ends : Ends (H S) To Said 𝓤 𝓛 d Post) where
       abbrev p : Ptr
       p = S.place d
 
@@ -90,9 +90,6 @@ module _ (S : Loan) where
       framed : FmC 𝓤 𝓛.H 𝓛.laws 𝓣.C
       framed = fm_of 𝓤 𝓛.H 𝓛.laws 𝓣
 
-      lent : (v : Val) (r : To.Denot) → r.items ≡ xs → ent 𝓤 (sem 𝓛 (To.own_val r (v ∷ []))) (Post v)
-      lent v r same = ends v r (subst (S.of.Tells (length xs) xs) (sym same) (S.of.tells (length xs) xs refl))
-
       at : (casts : Bool) → n < 2 ^ 64
           → ent 𝓤 (sem 𝓛 (loaned S.of.named p n xs)) (WpFn 𝓤 𝓛.H 𝓣.C 𝓣.Λ (code casts) (word p n ∷ []) Post)
       at false fits =
@@ -110,7 +107,7 @@ module _ (S : Loan) where
           run_lends S.of ! tt at_mem run p n xs v (λ r same fine. lands_last ! refl fine $
           exec ! 𝓣.C 𝓣.Λ (env locals l) last (at_ret (env locals l) Post) $
           sets ! (of_opd ! (get ! refl)) refl fine $ returns ! (look_at ! 0 refl) $ free_all ! refl $
-          by ! (lent v r same))))
+          by ! (ends v r same))))
       at true fits =
           let typed = ptr_typed p in
           let locals : List Local = (code true).locals in
@@ -126,7 +123,7 @@ module _ (S : Loan) where
           run_lends S.of ! tt at_mem run p n xs v (λ r same fine. lands_last ! refl fine $
           exec ! 𝓣.C 𝓣.Λ (env locals l) last (at_ret (env locals l) Post) $
           sets ! (of_opd ! (get ! refl)) refl fine $ returns ! (look_at ! 0 refl) $ free_all ! refl $
-          by ! (lent v r same))))
+          by ! (ends v r same))))
 
     walk : (casts : Bool) → Walk (H S) To Said 𝓤 𝓛 𝓣 (code casts)
     walk casts d vs Post ends =

@@ -5,10 +5,12 @@
 //! nothing.
 #![tactic(auto)]
 
+mod lends;
 mod lent;
 mod loan;
 mod word_loan;
 
+pub use lends::Lends;
 pub use lent::{lend, lend_words};
 pub use loan::Loan;
 pub use word_loan::WordLoan;

@@ -4,6 +4,7 @@ ghost use Rattle.std.specs.Prelude.{◌≡◌, ℕ, ◌^◌, ◌<◌, List, [], 
 ghost use Rattle.std.specs.Borrow.{u8};
 ghost use Rattle.guest_bytes.specs.Loaned.{loaned};
 
+use crate::lends::Lends;
 use crate::lent::lend_run;
 use std::marker::Model;
 use std_alloc::vec::Lodged;
@@ -34,19 +35,21 @@ impl Loan {
         }
     }
 
-    /// Takes the bytes out, and leaves none.
-    pub fn take(&mut self) -> Vec<u8, Lodged>
-        ensures taken { result.items ≡ self.old.items }
-        ensures left { self.new.items ≡ [] }
-    {
-        std::mem::replace(self, Loan::empty()).into_bytes()
-    }
-
     /// The bytes.
     pub fn into_bytes(self) -> Vec<u8, Lodged>
         ensures { result.items ≡ self.items }
     {
         let Loan { bytes, len } = self;
         unsafe { lend_run(bytes, len) }
+    }
+}
+
+impl Lends for Loan {
+    type Value = u8;
+
+    ghost values = { λ loan. loan.items };
+
+    fn take(&mut self) -> Vec<u8, Lodged> {
+        std::mem::replace(self, Loan::empty()).into_bytes()
     }
 }

@@ -4,6 +4,7 @@ ghost use Rattle.std.specs.Prelude.{◌≡◌, ◌*◌, ◌^◌, ◌<◌, List, 
 ghost use Rattle.std.specs.contracts.sync.atomic.AtomicU64.{the_row as AtomicWord};
 ghost use Rattle.guest_bytes.specs.Loaned.{loaned};
 
+use crate::lends::Lends;
 use crate::lent::lend_run;
 use std::marker::Model;
 use std::sync::atomic::AtomicU64;
@@ -36,19 +37,21 @@ impl WordLoan {
         }
     }
 
-    /// Takes the words out, and leaves none.
-    pub fn take(&mut self) -> Vec<AtomicU64, Lodged>
-        ensures taken { length result.items ≡ length self.old.items }
-        ensures left { self.new.items ≡ [] }
-    {
-        std::mem::replace(self, WordLoan::empty()).into_words()
-    }
-
     /// The words.
     pub fn into_words(self) -> Vec<AtomicU64, Lodged>
-        ensures { length result.items ≡ length self.items }
+        ensures { result.items ≡ self.items }
     {
         let WordLoan { words, len } = self;
         unsafe { lend_run(words as *mut AtomicU64, len) }
+    }
+}
+
+impl Lends for WordLoan {
+    type Value = AtomicU64;
+
+    ghost values = { λ loan. loan.items };
+
+    fn take(&mut self) -> Vec<AtomicU64, Lodged> {
+        std::mem::replace(self, WordLoan::empty()).into_words()
     }
 }

@@ -14,11 +14,8 @@ holder = record {
   row = session_row;
   laws = session.the_row_laws Heap.the_row ghosts heap.the_row_laws;
   name = handle.struct.name;
-  D = GuestHandle;
+  holder = handle.the_row;
   holds = λ h. (h.at, (h.alloc, h.session));
   make = λ t. record { at = t.0; alloc = t.1.0; session = t.1.1 };
-  eta = λ h. refl;
   beta = λ t. refl;
-  coded = handle.the_row.coded;
-  shr_at = handle.the_row.shr_at;
 }

@@ -11,7 +11,7 @@ use Rattle.racing_session.specs.declared.progress.Progress.{Progress}
 use Rattle.racing_session.specs.declared.progress.Refusal.{Refusal}
 use Rattle.racing_session.specs.declared.told.Waits.{Waits}
 use Rattle.racing_session.specs.Session.{GoesOn, IsSaid, IsTyped, IsWritten, RacingSession, waits_of}
-use Rattle.racing_ffi.specs.declared.pending.Pending.{Pending}
+use Rattle.c_values.specs.declared.pending.Pending.{Pending}
 use Rattle.racing_ffi.specs.Codes.{answer_code, progress_code}
 use Rattle.racing_ffi.specs.Handle.{Held}
 pub use Rattle.racing_ffi.specs.Disk.{HasInFlight, IsAskedFor, IsAtRest}

@@ -1,5 +1,4 @@
 pub mod Handle
-pub mod Lending
 pub mod Codes
 pub mod Disk
 pub mod Faults

@@ -5,7 +5,8 @@ ghost use Rattle.racing_ffi.specs.Calls.{Calls, MovesOutput, Resizes, Tells, Typ
 
 use crate::codes::{DONE, of_progress};
 use crate::handle::{GuestHandle, session_of};
-use crate::pending::Pending;
+use crate::pending::pending_of;
+use c_values::Pending;
 use racing_session::Typed;
 
 /// Types bytes to a guest's console, and tells how many were taken, the first ones, and what then waits.
@@ -27,7 +28,7 @@ pub extern "C" fn kalyubos_guest_input(
         waits,
     } = session.input(bytes);
     *took = taken;
-    *pending = Pending::of(waits);
+    *pending = pending_of(waits);
     of_progress(progress)
 }
 
@@ -43,7 +44,7 @@ pub extern "C" fn kalyubos_guest_resize(
     ensures pending { Tells guest.new.session pending.old pending.new }
 {
     let session = session_of!(guest);
-    *pending = Pending::of(session.resize(cols, rows));
+    *pending = pending_of(session.resize(cols, rows));
     DONE
 }
 

@@ -10,7 +10,7 @@ ghost use Rattle.racing_ffi.specs.Create.{IsMade, IsRefusal, Refuses, TakesFront
 use crate::codes::{DONE, HAS_BOARD, NO_BOARD, of_fault};
 use crate::config::GuestConfig;
 use crate::handle::GuestHandle;
-use crate::words::taken;
+use c_values::taken;
 use racing_session::{RacingFault, RacingSession};
 use std::alloc::Global;
 
@@ -78,25 +78,12 @@ fn boxed(alloc: Global, config: &mut GuestConfig<'_>) -> Result<Box<RacingSessio
     ensures front { TakesFront config.old.words.now config.new.words.now }
     ensures kept { config.new ≡ record config.old { words = config.new.words } }
 {
-    let session = session(alloc, config)?;
+    let Ok(words) = taken(alloc, config.words) else {
+        return Err(RacingFault::NoMemory);
+    };
+    let session = RacingSession::new(alloc, &config.spec(), words)?;
     match Box::new(alloc, session) {
         Ok(session) => Ok(session),
         Err(_) => Err(RacingFault::NoMemory),
     }
-}
-
-// The session that a config describes.
-fn session(alloc: Global, config: &mut GuestConfig<'_>) -> Result<RacingSession, RacingFault>
-    ensures made { IfOk result (λ session. session ≡ new_session (spec_of config.old)) }
-    ensures accepted { OnOk result (IsAccepted (spec_of config.old) (lent_words config.old.words.now)) }
-    ensures fault { IfErr result (IsRefusal config.old) }
-    ensures lasts { IfErr result (λ why. why ≢ RacingFault.SpentLimits) }
-    ensures left { OnOk result (All (λ loan. loan.items ≡ []) config.new.words.now) }
-    ensures front { TakesFront config.old.words.now config.new.words.now }
-    ensures kept { config.new ≡ record config.old { words = config.new.words } }
-{
-    let Ok(words) = taken(alloc, config.words) else {
-        return Err(RacingFault::NoMemory);
-    };
-    RacingSession::new(alloc, &config.spec(), words)
 }

@@ -9,8 +9,8 @@ ghost use Rattle.racing_ffi.specs.Calls.{Calls, HasInFlight, IsAskedFor, IsAtRes
 
 use crate::codes::{DONE, IDLE, of_answer};
 use crate::handle::{GuestHandle, session_of};
-use crate::pending::Pending;
-use c_values::{Operation, Run, tell_runs, verdict};
+use crate::pending::pending_of;
+use c_values::{Operation, Pending, Run, tell_runs, verdict};
 use racing_session::{HostEvent, RacingSession, Segment, Told};
 
 /// Tells which tags of a guest's disk are in flight: bit n is set where tag n is.
@@ -108,6 +108,6 @@ fn say(session: &mut RacingSession, said: HostEvent, pending: &mut Pending) -> u
     ensures pending { pending.new ≡ pending_by (waits_of session.new) }
 {
     let Told { answer, waits } = session.say(said);
-    *pending = Pending::of(waits);
+    *pending = pending_of(waits);
     of_answer(answer)
 }

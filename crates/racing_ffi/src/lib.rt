@@ -1,9 +1,9 @@
 //! A guest that runs on, for C: a static library, whose calls stand in `kalyubos.h` beside those of a board.
 //!
 //! Each export takes a handle, does what the session behind it does, and answers a number. `handle` is what C holds, `codes` the
-//! numbers, `pending` what waits once a call is answered. `slot` judges how C describes a guest, `config` is what a guest is made of, and
-//! `words` has the memory that the host lends it. `create` makes a guest and destroys it.
-//! `registers`, `console`, `disk` and `fault` have the calls on one, and `window` says whose a window of a number is.
+//! numbers, `pending` what waits once a call is answered. `slot` judges how C describes a guest, `config` is what a guest is made
+//! of. `create` makes a guest and destroys it. `registers`, `console`, `disk` and `fault` have the calls on one, and `window` says
+//! whose a window of a number is.
 #![tactic(auto)]
 
 mod codes;
@@ -17,4 +17,3 @@ mod pending;
 mod registers;
 mod slot;
 mod window;
-mod words;

@@ -5,8 +5,9 @@ ghost use Rattle.racing_ffi.specs.Calls.{AtWindow, Calls, HasWords, Reads, Serve
 
 use crate::codes::{BAD_WINDOW, DONE, of_answer};
 use crate::handle::{GuestHandle, session_of};
-use crate::pending::Pending;
+use crate::pending::pending_of;
 use crate::window::window_numbered;
+use c_values::Pending;
 use racing_session::Told;
 
 /// A guest's read of a register of one of its windows: what it gets.
@@ -46,11 +47,11 @@ pub extern "C" fn kalyubos_guest_write(
 {
     let session = session_of!(guest);
     let Some(window) = window_numbered(window) else {
-        *pending = Pending::of(session.waits());
+        *pending = pending_of(session.waits());
         return BAD_WINDOW;
     };
     let Told { answer, waits } = session.write(window, offset, width, value);
-    *pending = Pending::of(waits);
+    *pending = pending_of(waits);
     of_answer(answer)
 }
 
@@ -62,7 +63,7 @@ pub extern "C" fn kalyubos_guest_go_on(guest: &mut GuestHandle, pending: &mut Pe
 {
     let session = session_of!(guest);
     let Told { answer, waits } = session.go_on();
-    *pending = Pending::of(waits);
+    *pending = pending_of(waits);
     of_answer(answer)
 }
 

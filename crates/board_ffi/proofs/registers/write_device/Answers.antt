@@ -1,5 +1,5 @@
 use Rattle.board_ffi.proofs.Writing.{may_ask}
-use Rattle.board_ffi.proofs.answers.devices.write.Goals as goal
+use Rattle.board_ffi.proofs.registers.write_device.Goals as goal
 
 pub returns-clause-writes : goal.returns-clause-writes
 returns-clause-writes c =

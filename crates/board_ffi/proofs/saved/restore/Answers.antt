@@ -1,4 +1,4 @@
-use Rattle.board_ffi.proofs.answers.saved.restore.Goals as goal
+use Rattle.board_ffi.proofs.saved.restore.Goals as goal
 
 pub returns-clause-restores : goal.returns-clause-restores
 returns-clause-restores c =

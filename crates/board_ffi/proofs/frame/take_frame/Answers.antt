@@ -1,6 +1,6 @@
 -- What a driver sent is moved out, and dropped.
 use Rattle.board_ffi.proofs.Frames.{kept, takes_frame}
-use Rattle.board_ffi.proofs.answers.devices.take_frame.Goals as goal
+use Rattle.board_ffi.proofs.frame.take_frame.Goals as goal
 
 pub returns-in-Ok-clause-taken : goal.returns-in-Ok-clause-taken
 returns-in-Ok-clause-taken c = λ room.
