@@ -6,7 +6,6 @@ use Rattle.std.proofs.alloc.Global.TheLaws as heap
 use Rattle.session.proofs.session.Session.TheLaws as session
 use Rattle.c_values.proofs.Holder.{Holder}
 use Rattle.board_ffi.specs.Handle.{session_row}
-use Rattle.board_ffi.specs.declared.handle.Handle.{Handle}
 use Rattle.board_ffi.specs.contracts.handle.Handle as handle
 
 abbrev pub holder : Holder

@@ -6,7 +6,6 @@ use Rattle.std.proofs.alloc.Global.TheLaws as heap
 use Rattle.racing_session.proofs.session.RacingSession.TheLaws as session
 use Rattle.c_values.proofs.Holder.{Holder}
 use Rattle.racing_ffi.specs.Handle.{session_row}
-use Rattle.racing_ffi.specs.declared.handle.GuestHandle.{GuestHandle}
 use Rattle.racing_ffi.specs.contracts.handle.GuestHandle as handle
 
 abbrev pub holder : Holder

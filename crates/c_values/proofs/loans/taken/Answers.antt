@@ -1,4 +1,4 @@
-use Rattle.std.proofs.Common.{rules, ◌≡◌, ◌<◌, length, [], ◌+◌, sym, ap, ◌∙◌, arith}
+use Rattle.std.proofs.Common.{rules, ◌≡◌, ◌<◌, length, [], sym, ap, ◌∙◌, arith}
 use Rattle.std.specs.Vec.{vec_items}
 use Rattle.c_values.proofs.OneByOne.{all_taken, first_taken, next_taken, one_more_taken}
 use Rattle.c_values.proofs.loans.taken.Goals as goal
