@@ -94,7 +94,7 @@ impl<A: Allocator> Guest<A> {
 
 impl<A: Allocator + Copy> Guest<A> {
     /// Begins an event whose bytes are in a slice. A service that it asks for may pause where the budget is spent.
-    #[inline(always)]
+    #[inline(never)]
     pub(super) fn begin_in_place<I: Image>(
         &mut self,
         what: InPlace<'_>,
