@@ -14,7 +14,7 @@ use crate::device::BlockDevice;
 use crate::transfer::Done;
 use chain::Chain;
 use guest_memory::GuestMemory;
-use mmio_window::{Device, Used};
+use mmio_window::{QueueHandler, Used};
 use sector_cache::{Image, SectorCache};
 use std::alloc::Allocator;
 use std::convert::Infallible;
@@ -27,7 +27,7 @@ pub(crate) struct Cached {
     pub failed: bool,
 }
 
-impl<I: Image, C: Allocator + Copy> Device<SectorCache<I, C>> for Cached {
+impl<I: Image, C: Allocator + Copy> QueueHandler<SectorCache<I, C>> for Cached {
     type Refusal = Infallible;
 
     ghost use Rattle.block_device.specs.declared.device.BlockDevice.{BlockDevice};

@@ -14,7 +14,7 @@ use crate::device::BlockDevice;
 use crate::request::Request;
 use chain::{Chain, Runs};
 use guest_memory::GuestMemory;
-use mmio_window::{Device, Used};
+use mmio_window::{QueueHandler, Used};
 use std::alloc::Allocator;
 
 /// A device in a piece of its service. It leaves a chain that asks for the disk, and of a WRITE_ZEROES the runs.
@@ -23,7 +23,7 @@ pub(crate) struct OnHost<'a> {
     pub device: &'a BlockDevice,
 }
 
-impl<'a> Device<Runs> for OnHost<'a> {
+impl<'a> QueueHandler<Runs> for OnHost<'a> {
     type Refusal = Request;
 
     ghost use Rattle.std.specs.Prelude.{◌*◌, ◌^◌, ◌<◌};

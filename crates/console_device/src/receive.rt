@@ -4,14 +4,14 @@ use crate::no_memory::NoMemory;
 use crate::pending::Pending;
 use chain::Chain;
 use guest_memory::GuestMemory;
-use mmio_window::{Device, Used};
+use mmio_window::{QueueHandler, Used};
 use std::alloc::Allocator;
 
 /// Puts pending input into chains. It refuses none.
 #[derive(Drop)]
 pub(crate) struct Receive;
 
-impl<A: Allocator> Device<Pending<A>> for Receive {
+impl<A: Allocator> QueueHandler<Pending<A>> for Receive {
     type Refusal = NoMemory;
 
     ghost use Rattle.std.specs.Prelude.{ℕ, List};

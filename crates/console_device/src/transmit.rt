@@ -9,14 +9,14 @@ use crate::no_memory::NoMemory;
 use crate::outlet::Outlet;
 use chain::Chain;
 use guest_memory::GuestMemory;
-use mmio_window::{Device, Used};
+use mmio_window::{QueueHandler, Used};
 use std::alloc::Allocator;
 
 /// Puts out the readable bytes of chains. It refuses one whose bytes find no memory.
 #[derive(Drop)]
 pub(crate) struct Transmit;
 
-impl<O: Outlet> Device<O> for Transmit {
+impl<O: Outlet> QueueHandler<O> for Transmit {
     type Refusal = NoMemory;
 
     ghost use Rattle.std.specs.Prelude.{ℕ, List, Option, length};

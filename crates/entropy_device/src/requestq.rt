@@ -3,14 +3,14 @@
 use crate::device::EntropyDevice;
 use chain::Chain;
 use guest_memory::GuestMemory;
-use mmio_window::{Device, Used};
+use mmio_window::{QueueHandler, Used};
 use std::alloc::Allocator;
 
 /// Puts the pool's bytes into chains. It refuses none.
 #[derive(Drop)]
 pub(crate) struct Requestq;
 
-impl Device<EntropyDevice> for Requestq {
+impl QueueHandler<EntropyDevice> for Requestq {
     type Refusal = ();
 
     ghost use Rattle.std.specs.Prelude.{ℕ, List};

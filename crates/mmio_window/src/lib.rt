@@ -8,13 +8,13 @@
 
 mod action;
 mod configuration;
-mod device;
 mod device_kind;
 mod fault_note;
 mod interrupts;
 mod laws;
 mod piece;
 mod queue;
+mod queue_handler;
 mod queue_registers;
 mod register;
 mod saved;
@@ -25,7 +25,6 @@ mod window;
 pub use action::Action;
 pub use chain::Used;
 pub use configuration::{CONFIGURATION_LEN, CONFIGURATION_OFFSET};
-pub use device::Device;
 pub use device_kind::DeviceKind;
 pub use fault_note::{FaultNote, QueueFault};
 pub use interrupts::Interrupts;
@@ -36,6 +35,7 @@ pub use laws::{
 };
 pub use piece::serve_piece;
 pub use queue::{Queue, Token};
+pub use queue_handler::QueueHandler;
 pub use queue_registers::QueueRegisters;
 pub use register::{Register, may_stop_queues};
 pub use saved::{Reached, SavedNegotiation, SavedQueue, SavedSelectors, SavedWindow};

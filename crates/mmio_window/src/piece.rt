@@ -7,7 +7,7 @@ ghost use Rattle.mmio_window.specs.Pieces.{LeavesChain, ServesTo, fitting};
 ghost use Rattle.mmio_window.specs.Soundness.{IsSound};
 ghost use Rattle.mmio_window.specs.Window.{queue_at};
 
-use crate::device::Device;
+use crate::queue_handler::QueueHandler;
 use crate::service::{Left, serve_queue, show};
 use crate::stage::Stage;
 use crate::window::Window;
@@ -18,7 +18,7 @@ use std::alloc::Allocator;
 /// Serves a piece of the queue of this number in its device's window. Where the window isn't live or the queue not
 /// ready, nothing happens. Where the device leaves a chain on offer the service ends, and those before it are used.
 #[inline(always)]
-pub fn serve_piece<B, D: Device<B>, M: Allocator>(
+pub fn serve_piece<B, D: QueueHandler<B>, M: Allocator>(
     device: &mut D,
     backend: &mut B,
     q: u16,

@@ -9,9 +9,9 @@ ghost use Rattle.mmio_window.specs.Leaving.{IsKept, IsLeftAt, LeavesQueue, Queue
 ghost use Rattle.mmio_window.specs.Queue.{LiesIn, made_as};
 ghost use Rattle.mmio_window.specs.Soundness.{IsSound};
 
-use crate::device::Device;
 use crate::fault_note::{FaultNote, QueueFault};
 use crate::queue::{Queue, Token};
+use crate::queue_handler::QueueHandler;
 use crate::stage::Stage;
 use crate::window::Window;
 use chain::{Budget, Chain, Fault, Progress, Virtqueue};
@@ -51,7 +51,7 @@ pub struct Refused<E> {
 
 /// Serves a piece of a service: its first one opens the queue, and its end closes it. Where the device leaves a chain on
 /// offer, `chain` has its buffers.
-pub fn serve_queue<B, D: Device<B>, M: Allocator>(
+pub fn serve_queue<B, D: QueueHandler<B>, M: Allocator>(
     device: &mut D,
     backend: &mut B,
     mem: &mut GuestMemory<M>,
@@ -109,7 +109,7 @@ fn met_with<M: Allocator>(
 }
 
 /// Serves chains until none is on offer or wanted, one has a fault, one is left on offer, or the budget is spent.
-fn serve_chains<B, D: Device<B>, M: Allocator>(
+fn serve_chains<B, D: QueueHandler<B>, M: Allocator>(
     device: &mut D,
     backend: &mut B,
     mem: &mut GuestMemory<M>,

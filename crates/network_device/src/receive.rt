@@ -11,7 +11,7 @@ use crate::header::{HEADER, HEADER_LEN, receive_header};
 use crate::store::FrameStore;
 use chain::Chain;
 use guest_memory::GuestMemory;
-use mmio_window::{Device, Used};
+use mmio_window::{QueueHandler, Used};
 use std::alloc::Allocator;
 
 /// No waiting frame fits the chain on offer.
@@ -25,7 +25,7 @@ pub(crate) struct Receive {
     pub dropped: u64,
 }
 
-impl<A: Allocator> Device<FrameStore<A>> for Receive {
+impl<A: Allocator> QueueHandler<FrameStore<A>> for Receive {
     type Refusal = NoneFits;
 
     ghost use Rattle.std.specs.Prelude.{length};

@@ -10,7 +10,7 @@ use crate::header::HEADER;
 use crate::outlet::FrameOutlet;
 use chain::Chain;
 use guest_memory::GuestMemory;
-use mmio_window::{Device, Used};
+use mmio_window::{QueueHandler, Used};
 use std::alloc::Allocator;
 use thiserror::Error;
 
@@ -26,7 +26,7 @@ pub(crate) struct Transmit {
     pub dropped: u64,
 }
 
-impl<O: FrameOutlet> Device<O> for Transmit {
+impl<O: FrameOutlet> QueueHandler<O> for Transmit {
     type Refusal = NoRoom;
 
     ghost use Rattle.std.specs.Prelude.{length};

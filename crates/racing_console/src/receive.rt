@@ -8,7 +8,7 @@ ghost use Rattle.racing_service.specs.Storing.{StoresEach};
 
 use chain::{Chain, Runs, Used};
 use console_device::{ConsoleDevice, NoMemory};
-use racing_service::{RacingDevice, store_in_chain};
+use racing_service::{RacingHandler, store_in_chain};
 use shared_memory::Shared;
 use std::alloc::Allocator;
 
@@ -26,7 +26,7 @@ impl RacingReceive {
     }
 }
 
-impl<A: Allocator> RacingDevice<ConsoleDevice<A>> for RacingReceive {
+impl<A: Allocator> RacingHandler<ConsoleDevice<A>> for RacingReceive {
     type Refusal = NoMemory;
 
     ghost use Rattle.std.specs.Prelude.{ℕ, List};

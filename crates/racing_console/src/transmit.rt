@@ -10,7 +10,7 @@ ghost use Rattle.racing_console.specs.Output.{IsPutOut};
 use crate::putting::put_buffers;
 use chain::{Chain, Used};
 use console_device::{NoMemory, Outlet};
-use racing_service::RacingDevice;
+use racing_service::RacingHandler;
 use shared_memory::Shared;
 
 /// How many bytes are copied at once.
@@ -32,7 +32,7 @@ impl RacingTransmit {
     }
 }
 
-impl<O: Outlet> RacingDevice<O> for RacingTransmit {
+impl<O: Outlet> RacingHandler<O> for RacingTransmit {
     type Refusal = NoMemory;
 
     ghost use Rattle.std.specs.Prelude.{ℕ, List, Option};

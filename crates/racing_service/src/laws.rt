@@ -24,12 +24,12 @@ ghost use Rattle.racing_service.specs.Storing.{StoresEach, StoresSome};
 ghost use Rattle.racing_service.specs.LeftAlone.{IsLeftAlone, IsLeftAtOnce, IsServedAtOnce, KeepsPacked, KeepsSplit, LeavesAlone, LeavesPacked, LeavesSplit, chains_of};
 ghost use Rattle.racing_service.specs.Laws.{AreServices, SeesNoHead, SeesNoList, site_of};
 
-use crate::device::RacingDevice;
+use crate::handler::RacingHandler;
 
 /// A guest that stands still, and its split ring: each round is one service of `split_kind`, whether it ends with no chain
 /// on offer or by a fault, and the look that settles the service changes nothing. So a settled service of one round is one
 /// service.
-pub fn a_split_ring_that_stands_still_is_served_by_services<B, D: RacingDevice<B>>()
+pub fn a_split_ring_that_stands_still_is_served_by_services<B, D: RacingHandler<B>>()
     ensures rounds { (setup : D.Setup) (rounds : List (Round RingState D.State)) (a b : Standing RingState D.State)
         → LiesIn (memory a.sightings) a.ring.setup → 0 < a.ring.setup.size
         → AreRounds racing_split (D.device setup) false First a rounds b
@@ -55,7 +55,7 @@ pub fn a_split_ring_that_stands_still_is_served_by_services<B, D: RacingDevice<B
 {}
 
 /// The same of a packed ring.
-pub fn a_packed_ring_that_stands_still_is_served_by_services<B, D: RacingDevice<B>>()
+pub fn a_packed_ring_that_stands_still_is_served_by_services<B, D: RacingHandler<B>>()
     ensures rounds { (setup : D.Setup) (rounds : List (Round RingState D.State)) (a b : Standing RingState D.State)
         → 0 < a.ring.setup.size → AreRounds racing_packed (D.device setup) false First a rounds b
         → AreServices packed_kind (D.device setup) (site_of a) rounds (site_of b) }
@@ -81,7 +81,7 @@ pub fn a_packed_ring_that_stands_still_is_served_by_services<B, D: RacingDevice<
 /// A settled service saw behind its closing writes that nothing more was on offer, where its device takes a chain. Of a split
 /// ring: the available idx was the place of the next chain. Of a packed ring, unless all its places are in flight: the next
 /// descriptor wasn't available.
-pub fn a_settled_service_saw_nothing_more_on_offer<B, D: RacingDevice<B>>()
+pub fn a_settled_service_saw_nothing_more_on_offer<B, D: RacingHandler<B>>()
     ensures split { (setup : D.Setup) (races wanted : Bool) (stage : Stage) (rounds : List (Round RingState D.State))
         (at b : Standing RingState D.State) → IsSettled racing_split (D.device setup) races stage rounds at b wanted
         → (D.device setup).takes at.state ≡ true → SeesNoHead at.sightings b.sightings at.ring }
@@ -112,7 +112,7 @@ pub fn a_row_of_bytes_is_stored_in_parts()
 /// reads them. Then the memory as it was seen once the chain was taken offers it, and its device did what it does with that chain
 /// in that memory, whatever else the guest writes meanwhile. So each chain of a service is served as that of a guest which stands
 /// still.
-pub fn a_chain_that_is_left_alone_is_served_at_one_moment<B, D: RacingDevice<B>>()
+pub fn a_chain_that_is_left_alone_is_served_at_one_moment<B, D: RacingHandler<B>>()
     ensures split { (setup : D.Setup) (races : Bool) (stage : Stage) (most : ℕ) (ending : Ending) (wanted : Bool)
         (a b : Standing RingState D.State)
         (service : IsRacingService racing_split (D.device setup) races stage most a b ending wanted)
@@ -130,7 +130,7 @@ pub fn a_chain_that_is_left_alone_is_served_at_one_moment<B, D: RacingDevice<B>>
 {}
 
 /// The same of a chain that its device leaves on offer: by the bytes of that memory it has the reason for which it leaves it.
-pub fn a_chain_that_is_left_alone_is_left_at_one_moment<B, D: RacingDevice<B>>()
+pub fn a_chain_that_is_left_alone_is_left_at_one_moment<B, D: RacingHandler<B>>()
     ensures split { (setup : D.Setup) (backend : B) (races : Bool) (buffers : List Buffer) (entry : Entry) (why : D.Refusal)
         (a b : Standing RingState D.State)
         (left : LeavesOne racing_split (D.device setup) races (D.Refuses setup backend) buffers entry why a b)

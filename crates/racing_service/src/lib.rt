@@ -4,16 +4,16 @@
 //! closing writes, and goes on until it finds nothing new.
 #![tactic(auto)]
 
-mod device;
 mod flight;
+mod handler;
 mod laws;
 mod service;
 mod sink;
 mod stage;
 mod storing;
 
-pub use device::RacingDevice;
 pub use flight::KeepsFlights;
+pub use handler::RacingHandler;
 pub use laws::{
     a_chain_that_is_left_alone_is_left_at_one_moment,
     a_chain_that_is_left_alone_is_served_at_one_moment,

@@ -1,6 +1,6 @@
 //! The smallest device.
 
-use crate::device::RacingDevice;
+use crate::handler::RacingHandler;
 use chain::{Chain, Used};
 use shared_memory::Shared;
 
@@ -8,7 +8,7 @@ use shared_memory::Shared;
 #[derive(Clone, Copy)]
 pub struct Sink;
 
-impl RacingDevice<()> for Sink {
+impl RacingHandler<()> for Sink {
     ghost use Rattle.racing_service.specs.Sink.{sink};
 
     type Refusal = ();

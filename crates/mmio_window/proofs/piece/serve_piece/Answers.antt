@@ -9,13 +9,13 @@ use Rattle.mmio_window.specs.Window.{queue_at}
 use Rattle.mmio_window.proofs.piece.serve_piece.Goals as goal
 
 pub returns-in_default-clause-keeps : goal.returns-in_default-clause-keeps
-returns-in_default-clause-keeps g c = kept_none g.D.Device.Keeps c.args.device.now c.args.backend.now
+returns-in_default-clause-keeps g c = kept_none g.D.QueueHandler.Keeps c.args.device.now c.args.backend.now
 
 pub returns-in-Ok-clause-serves : goal.returns-in-Ok-clause-serves
 returns-in-Ok-clause-serves g c =
-    let device = g.D.Device.device (g.D.Device.setup c.args.device.now c.args.backend.now) in
-    let before = g.D.Device.state c.args.device.now c.args.backend.now in
-    let after = g.D.Device.state c.serve_queue.new.device c.serve_queue.new.backend in
+    let device = g.D.QueueHandler.device (g.D.QueueHandler.setup c.args.device.now c.args.backend.now) in
+    let before = g.D.QueueHandler.state c.args.device.now c.args.backend.now in
+    let after = g.D.QueueHandler.state c.serve_queue.new.device c.serve_queue.new.backend in
     serves_to (fitting device) c.args.stage c.args.budget c.args.q (queue_at c.args.q c.args.window.now)
     c.in-Some.queue.now c.serve_queue.new.queue c.in-Ok.left c.show.result c.args.mem.now c.serve_queue.new.mem
     c.args.window.now c.show.new.window before after c.in-Some.ensures.value c.show.ensures.progress
@@ -32,17 +32,17 @@ returns-in-Ok-clause-sound g c =
 
 pub returns-in-Err-clause-leaves : goal.returns-in-Err-clause-leaves
 returns-in-Err-clause-leaves g c =
-    let setup = g.D.Device.setup c.args.device.now c.args.backend.now in
+    let setup = g.D.QueueHandler.setup c.args.device.now c.args.backend.now in
     record {
       memory = c.serve_queue.new.mem;
       buffers = c.serve_queue.new.chain;
       refuses = c.in-Err.ensures.refuses.left.refuses;
-      ends = λ lacks. refuses_to (g.D.Device.device setup) c.args.stage c.args.budget c.args.q
-          (g.D.Device.Refuses setup c.serve_queue.new.backend) (queue_at c.args.q c.args.window.now)
+      ends = λ lacks. refuses_to (g.D.QueueHandler.device setup) c.args.stage c.args.budget c.args.q
+          (g.D.QueueHandler.Refuses setup c.serve_queue.new.backend) (queue_at c.args.q c.args.window.now)
           c.in-Some.queue.now c.serve_queue.new.queue c.close-wanted.new.self c.args.mem.now c.serve_queue.new.mem
           c.close-wanted.new.mem c.args.window.now c.show-in-Err.new.window
-          (g.D.Device.state c.args.device.now c.args.backend.now)
-          (g.D.Device.state c.serve_queue.new.device c.serve_queue.new.backend) c.serve_queue.new.chain
+          (g.D.QueueHandler.state c.args.device.now c.args.backend.now)
+          (g.D.QueueHandler.state c.serve_queue.new.device c.serve_queue.new.backend) c.serve_queue.new.chain
           c.in-Err.refused c.close-wanted.result lacks c.in-Some.ensures.value c.in-Err.ensures.refuses
           c.close-wanted.ensures.closed c.close-wanted.ensures.shut c.close-wanted.ensures.wants
           c.show-in-Err.ensures.after;

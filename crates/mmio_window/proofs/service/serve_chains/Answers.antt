@@ -7,24 +7,24 @@ use Rattle.mmio_window.proofs.service.serve_chains.Goals as goal
 
 pub loop-left-init : goal.loop-left-init
 loop-left-init g c = (
-  in_course_begins (g.D.Device.device (g.D.Device.setup c.args.device.now c.args.backend.now)) c.args.budget
+  in_course_begins (g.D.QueueHandler.device (g.D.QueueHandler.setup c.args.device.now c.args.backend.now)) c.args.budget
       c.args.mem.now c.args.queue.now
-      (g.D.Device.state c.args.device.now c.args.backend.now) c.requires.queue,
+      (g.D.QueueHandler.state c.args.device.now c.args.backend.now) c.requires.queue,
   refl,
-  kept_none g.D.Device.Keeps c.args.device.now c.args.backend.now,
+  kept_none g.D.QueueHandler.Keeps c.args.device.now c.args.backend.now,
   c.requires.ready,
 )
 
 pub loop-left-preserved : goal.loop-left-preserved
 loop-left-preserved g c =
     let same = c.loop-left.invariant.1 in (
-      in_course_goes_on (g.D.Device.device (g.D.Device.setup c.args.device.now c.args.backend.now))
+      in_course_goes_on (g.D.QueueHandler.device (g.D.QueueHandler.setup c.args.device.now c.args.backend.now))
           c.args.budget c.loop-left.left c.spend.new.left
           c.args.mem.now c.loop-left.mem c.serve.new.mem c.give.new.mem c.args.queue.now c.loop-left.queue
           c.take.new.self c.give.new.self
-          (g.D.Device.state c.args.device.now c.args.backend.now)
-          (g.D.Device.state c.loop-left.device c.loop-left.backend)
-          (g.D.Device.state c.serve.new.self c.serve.new.backend)
+          (g.D.QueueHandler.state c.args.device.now c.args.backend.now)
+          (g.D.QueueHandler.state c.loop-left.device c.loop-left.backend)
+          (g.D.QueueHandler.state c.serve.new.self c.serve.new.backend)
           c.take.new.chain (entry_of c.in-Ok-Some.token) c.in-Ok.used.len c.in-Ok.used.wrote
           c.loop-left.invariant.0 (some_left c.loop-left.left c.is_spent.result c.is_spent.ensures
           c.if-is_spent.false) c.spend.ensures
@@ -34,7 +34,7 @@ loop-left-preserved g c =
           (rw same at c.in-Ok.ensures.does) c.give.ensures.used c.give.ensures.past
           c.serve.ensures.range c.give.ensures.range c.give.ensures.lies c.give.ensures.made,
       c.serve.ensures.setup ∙ same,
-      kept_more g.D.Device.Keeps c.args.device.now c.loop-left.device c.serve.new.self c.args.backend.now
+      kept_more g.D.QueueHandler.Keeps c.args.device.now c.loop-left.device c.serve.new.self c.args.backend.now
           c.loop-left.backend c.serve.new.backend
           c.loop-left.invariant.2 c.serve.ensures.keeps,
       c.serve.ensures.ready,
@@ -52,8 +52,8 @@ pub returns-in-Err-serve-clause-refuses : goal.returns-in-Err-serve-clause-refus
 returns-in-Err-serve-clause-refuses g c =
     let same = c.loop-left.invariant.1 in
     left_at c.loop-left.invariant.0
-    (g.D.Device.Refuses (g.D.Device.setup c.args.device.now c.args.backend.now) c.serve.new.backend)
-    c.serve.new.mem c.take.new.self (g.D.Device.state c.serve.new.self c.serve.new.backend) c.take.new.chain
+    (g.D.QueueHandler.Refuses (g.D.QueueHandler.setup c.args.device.now c.args.backend.now) c.serve.new.backend)
+    c.serve.new.mem c.take.new.self (g.D.QueueHandler.state c.serve.new.self c.serve.new.backend) c.take.new.chain
     c.in-Ok-Some.token c.in-Err-serve.why
     (rw (← same) (sym c.takes.ensures ∙ c.loop-left-test.true))
     (rw c.in-Ok-Some.field-0-is at c.in-Ok-Some.ensures.on_offer)
@@ -81,6 +81,6 @@ returns-clause-stops g c =
 
 pub returns-in-Err-serve-clause-keeps : goal.returns-in-Err-serve-clause-keeps
 returns-in-Err-serve-clause-keeps g c =
-    kept_more g.D.Device.Keeps c.args.device.now c.loop-left.device c.serve.new.self c.args.backend.now
+    kept_more g.D.QueueHandler.Keeps c.args.device.now c.loop-left.device c.serve.new.self c.args.backend.now
     c.loop-left.backend c.serve.new.backend
     c.loop-left.invariant.2 c.serve.ensures.keeps

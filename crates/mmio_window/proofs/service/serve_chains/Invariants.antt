@@ -6,12 +6,12 @@ use Rattle.mmio_window.proofs.service.serve_chains.Given as goal
 
 abbrev pub invariant-loop-left : goal.invariant-loop-left
 invariant-loop-left g l =
-    IsInCourse (g.D.Device.device (g.D.Device.setup l.fn.device l.fn.backend)) l.fn.budget l.left l.fn.mem
+    IsInCourse (g.D.QueueHandler.device (g.D.QueueHandler.setup l.fn.device l.fn.backend)) l.fn.budget l.left l.fn.mem
     l.mem l.fn.queue l.queue
-    (g.D.Device.state l.fn.device l.fn.backend) (g.D.Device.state l.device l.backend)
-    × (g.D.Device.setup l.device l.backend ≡ g.D.Device.setup l.fn.device l.fn.backend)
-    × IsKept g.D.Device.Keeps l.fn.device l.fn.backend l.device l.backend
-    × g.D.Device.IsReady l.device l.backend
+    (g.D.QueueHandler.state l.fn.device l.fn.backend) (g.D.QueueHandler.state l.device l.backend)
+    × (g.D.QueueHandler.setup l.device l.backend ≡ g.D.QueueHandler.setup l.fn.device l.fn.backend)
+    × IsKept g.D.QueueHandler.Keeps l.fn.device l.fn.backend l.device l.backend
+    × g.D.QueueHandler.IsReady l.device l.backend
 
 abbrev pub decreases-loop-left : goal.decreases-loop-left
 decreases-loop-left g l = left_of l.queue

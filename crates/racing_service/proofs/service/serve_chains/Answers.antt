@@ -56,7 +56,7 @@ pub returns-in-Err-serve-clause-leaves : goal.returns-in-Err-serve-clause-leaves
 returns-in-Err-serve-clause-leaves g c =
     let same = c.loop-queue.invariant.setup in
     left_there _ _ _ _ _ _ _ _ _ c.loop-queue.invariant.round _ _ _ _ _ _ _
-    (g.D.RacingDevice.Refuses (g.D.RacingDevice.setup c.args.device.now c.args.backend.now) c.serve.new.backend)
+    (g.D.RacingHandler.Refuses (g.D.RacingHandler.setup c.args.device.now c.args.backend.now) c.serve.new.backend)
     c.in-Err-serve.why
     (rw (← same) (sym c.takes.ensures ∙ c.loop-queue-test.true))
     (some_left c.loop-queue.left c.is_spent.result c.is_spent.ensures c.if-is_spent.false) c.spend.ensures
