@@ -8,7 +8,7 @@ use Rattle.chain.specs.Service.{Device, Ending, Spent, Faulted, IsExactUnless, R
 use Rattle.mmio_window.specs.declared.queue.Queue.{Queue}
 use Rattle.mmio_window.specs.declared.stage.Stage.{Stage}
 use Rattle.mmio_window.specs.declared.stage.Stage.TheVariants.{First, Next}
-use Rattle.mmio_window.specs.Pieces.{CompletesAt, IsNotifiedWithin, IsRefusedAt, ServesTo}
+use Rattle.mmio_window.specs.Pieces.{CompletesAt, IsNotifiedWithin, IsRefusedAt, ServesTo, fitting}
 use Rattle.mmio_window.specs.Serving.{IsNotified, NothingHappens, site_at}
 use Rattle.mmio_window.specs.Window.{WindowState}
 use Rattle.mmio_window.proofs.Devices.{KeepsDevice, KeepsDevice-self}
@@ -45,10 +45,6 @@ module _ {State : Type 0} (device : Device State) (budget : Budget) (q : ℕ) (m
   spends_limit First (Some queue) h =
       elim h.begins.pauses.spent [ inl e ↦ inl (λ none. cc) | inr e ↦ inr (λ none. cc) ]
   spends_limit Next (Some queue) h = elim h.pauses.spent [ inl e ↦ inl (λ none. cc) | inr e ↦ inr (λ none. cc) ]
-
--- the device that serves a chain as this one does, and leaves none on offer
-abbrev pub fitting : {State : Type 0} → Device State → Device State
-fitting device = record { takes = device.takes; Gives = device.Gives; LacksMemory = λ s readable w. ⊥ }
 
 -- a piece that ends and leaves no chain on offer
 pub record Answered {State : Type 0} (stage : Stage) (device : Device State) (budget : Budget) (q : ℕ)

@@ -1,12 +1,12 @@
 //! A network card: a network device, and the frames that its driver transmitted and its host hasn't taken.
 
-ghost use Rattle.std.specs.Prelude.{◌≡◌, ◌==◌, ◌≤◌, ◌++◌, Some, None, IfOk, IfErr, OnOk, OnErr, is_some, length};
+ghost use Rattle.std.specs.Prelude.{◌≡◌, ◌≤◌, ◌++◌, Some, None, IfOk, IfErr, OnOk, OnErr, is_some};
 ghost use Rattle.std.specs.Option.{option_map};
 ghost use Rattle.guest_memory.specs.Memory.{SameRange};
 ghost use Rattle.mmio_window.specs.Soundness.{IsSound};
 ghost use Rattle.network_device.specs.Config.{config_of};
 ghost use Rattle.network_device.specs.Network.{refusal};
-ghost use Rattle.device_list.specs.Card.{CardServesTo, fresh_card, oldest_of, with_frame, with_link, without_oldest};
+ghost use Rattle.device_list.specs.Card.{CardServesTo, fresh_card, is_card_starving, oldest_of, with_frame, with_link, without_oldest};
 
 use chain::{Budget, Chain, Progress};
 use guest_memory::GuestMemory;
@@ -143,10 +143,16 @@ impl<A: Allocator> NetworkCard<A> {
         }
     }
 
-    /// Whether no frame waits for its driver.
-    pub(crate) fn is_empty(&self) -> bool
-        ensures { result ≡ (length self.now.network.waiting.frames == 0) }
+    /// Whether a chain is on offer in its receive queue and no frame waits for that.
+    pub(crate) fn starved<M: Allocator>(
+        &self,
+        mem: &GuestMemory<M>,
+        window: &Window,
+        room: &mut Chain,
+    ) -> bool
+        requires sound { IsSound mem.now window.now }
+        ensures { result ≡ is_card_starving self.now mem.now window.now }
     {
-        self.network.waiting() == 0
+        self.network.waiting() == 0 && window.has_offer(RECEIVEQ, mem, room)
     }
 }

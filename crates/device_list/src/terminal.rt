@@ -1,13 +1,13 @@
 //! A console among the further devices: a console device, and the output that its host hasn't taken.
 
-ghost use Rattle.std.specs.Prelude.{◌≡◌, ◌==◌, ◌++◌, IfOk, is_some, length};
+ghost use Rattle.std.specs.Prelude.{◌≡◌, ◌++◌, IfOk, is_some};
 ghost use Rattle.std.specs.Option.{option_map};
 ghost use Rattle.guest_memory.specs.Memory.{SameRange};
 ghost use Rattle.mmio_window.specs.Soundness.{IsSound};
 ghost use Rattle.negotiation.specs.Features.{feature_bits};
 ghost use Rattle.console_device.specs.Config.{config_of, console_features};
 ghost use Rattle.console_device.specs.Input.{fitting};
-ghost use Rattle.device_list.specs.Terminal.{TerminalServesTo, fresh_terminal, output_of, terminal_configured, with_emergency, with_size, with_typed, without_output};
+ghost use Rattle.device_list.specs.Terminal.{TerminalServesTo, fresh_terminal, is_terminal_starving, output_of, terminal_configured, with_emergency, with_size, with_typed, without_output};
 
 use chain::{Budget, Chain, Progress};
 use console_device::{ConsoleDevice, EMERGENCY_WRITE, RECEIVEQ, TRANSMITQ};
@@ -163,10 +163,16 @@ impl<A: Allocator> Terminal<A> {
         }
     }
 
-    /// Whether no input is pending.
-    pub(crate) fn is_empty(&self) -> bool
-        ensures { result ≡ (length self.now.console.pending == 0) }
+    /// Whether a chain is on offer in its receive queue and no input is pending for that.
+    pub(crate) fn starved<M: Allocator>(
+        &self,
+        mem: &GuestMemory<M>,
+        window: &Window,
+        room: &mut Chain,
+    ) -> bool
+        requires sound { IsSound mem.now window.now }
+        ensures { result ≡ is_terminal_starving self.now mem.now window.now }
     {
-        self.console.pending_len() == 0
+        self.console.pending_len() == 0 && window.has_offer(RECEIVEQ, mem, room)
     }
 }

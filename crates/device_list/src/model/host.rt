@@ -18,7 +18,6 @@ use chain::Chain;
 use guest_memory::GuestMemory;
 use hosted_disk::HostedDisk;
 use mmio_window::Window;
-use network_device::RECEIVEQ;
 use std::alloc::Allocator;
 
 impl<A: Allocator> DeviceModel<A> {
@@ -128,11 +127,9 @@ impl<A: Allocator> DeviceModel<A> {
     {
         match self {
             DeviceModel::Entropy(entropy) => entropy.starved(mem, window, room),
-            DeviceModel::Network(card) => card.is_empty() && window.has_offer(RECEIVEQ, mem, room),
+            DeviceModel::Network(card) => card.starved(mem, window, room),
             DeviceModel::Block(_) | DeviceModel::Image(_) => false,
-            DeviceModel::Console(terminal) => {
-                terminal.is_empty() && window.has_offer(RECEIVEQ, mem, room)
-            }
+            DeviceModel::Console(terminal) => terminal.starved(mem, window, room),
         }
     }
 
