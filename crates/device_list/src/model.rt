@@ -120,11 +120,8 @@ impl<A: Allocator> DeviceModel<A> {
         ensures { result ≡ must_wait offset (state_of self.now) }
     {
         match self {
-            DeviceModel::Entropy(_)
-            | DeviceModel::Network(_)
-            | DeviceModel::Console(_)
-            | DeviceModel::Image(_) => false,
             DeviceModel::Block(disk) => disk.must_wait(offset),
+            _ => false,
         }
     }
 
@@ -133,12 +130,8 @@ impl<A: Allocator> DeviceModel<A> {
         ensures configured { state_of self.new ≡ configured offset value (state_of self.old) }
         ensures keeps { KeepsModel (state_of self.old) (state_of self.new) }
     {
-        match self {
-            DeviceModel::Entropy(_)
-            | DeviceModel::Network(_)
-            | DeviceModel::Block(_)
-            | DeviceModel::Image(_) => (),
-            DeviceModel::Console(terminal) => terminal.configure(offset, value),
+        if let DeviceModel::Console(terminal) = self {
+            terminal.configure(offset, value);
         }
     }
 

@@ -62,11 +62,8 @@ impl DeviceSpec {
         ensures { result ≡ has_bad_mtu self.now }
     {
         match self {
-            DeviceSpec::Entropy
-            | DeviceSpec::Block { .. }
-            | DeviceSpec::Console { .. }
-            | DeviceSpec::Image { .. } => false,
             DeviceSpec::Network { mtu, .. } => *mtu < LEAST_MTU,
+            _ => false,
         }
     }
 
@@ -75,13 +72,10 @@ impl DeviceSpec {
         ensures { result ≡ has_bad_disk self.now }
     {
         match self {
-            DeviceSpec::Entropy
-            | DeviceSpec::Network { .. }
-            | DeviceSpec::Console { .. }
-            | DeviceSpec::Image { .. } => false,
             DeviceSpec::Block { sectors, depth, .. } => {
                 *sectors >= TOO_MANY_SECTORS || *depth == 0 || usize::from(*depth) > MOST_IN_FLIGHT
             }
+            _ => false,
         }
     }
 }

@@ -30,8 +30,8 @@ impl<A: Allocator> DeviceModel<A> {
     {
         match self {
             DeviceModel::Entropy(entropy) => Some(entropy.supply(bytes)),
-            DeviceModel::Network(_) | DeviceModel::Block(_) | DeviceModel::Image(_) => None,
             DeviceModel::Console(terminal) => Some(terminal.supply(bytes)),
+            _ => None,
         }
     }
 
@@ -44,11 +44,8 @@ impl<A: Allocator> DeviceModel<A> {
         ensures keeps { KeepsModel (state_of self.old) (state_of self.new) }
     {
         match self {
-            DeviceModel::Entropy(_)
-            | DeviceModel::Block(_)
-            | DeviceModel::Console(_)
-            | DeviceModel::Image(_) => Err(ReceiveRefusal::NoDevice),
             DeviceModel::Network(card) => card.receive(frame).map_err(ReceiveRefusal::Frame),
+            _ => Err(ReceiveRefusal::NoDevice),
         }
     }
 
@@ -57,9 +54,9 @@ impl<A: Allocator> DeviceModel<A> {
         ensures { option_map (λ parts. parts.0.now ++ parts.1.now) result ≡ sent_of (state_of self.now) }
     {
         match self {
-            DeviceModel::Entropy(_) | DeviceModel::Block(_) | DeviceModel::Image(_) => None,
             DeviceModel::Network(card) => card.sent(),
             DeviceModel::Console(terminal) => terminal.sent(),
+            _ => None,
         }
     }
 
@@ -71,9 +68,9 @@ impl<A: Allocator> DeviceModel<A> {
         ensures keeps { KeepsModel (state_of self.old) (state_of self.new) }
     {
         match self {
-            DeviceModel::Entropy(_) | DeviceModel::Block(_) | DeviceModel::Image(_) => false,
             DeviceModel::Network(card) => card.take_sent(),
             DeviceModel::Console(terminal) => terminal.take_sent(),
+            _ => false,
         }
     }
 
@@ -84,16 +81,11 @@ impl<A: Allocator> DeviceModel<A> {
         ensures kept { OnFalse result (state_of self.new ≡ state_of self.old) }
         ensures keeps { KeepsModel (state_of self.old) (state_of self.new) }
     {
-        match self {
-            DeviceModel::Entropy(_)
-            | DeviceModel::Block(_)
-            | DeviceModel::Console(_)
-            | DeviceModel::Image(_) => false,
-            DeviceModel::Network(card) => {
-                card.set_link(up);
-                true
-            }
-        }
+        let DeviceModel::Network(card) = self else {
+            return false;
+        };
+        card.set_link(up);
+        true
     }
 
     /// Changes the size, if it is a console. False where it is none. Its window is told by the caller.
@@ -103,16 +95,11 @@ impl<A: Allocator> DeviceModel<A> {
         ensures kept { OnFalse result (state_of self.new ≡ state_of self.old) }
         ensures keeps { KeepsModel (state_of self.old) (state_of self.new) }
     {
-        match self {
-            DeviceModel::Entropy(_)
-            | DeviceModel::Network(_)
-            | DeviceModel::Block(_)
-            | DeviceModel::Image(_) => false,
-            DeviceModel::Console(terminal) => {
-                terminal.resize(cols, rows);
-                true
-            }
-        }
+        let DeviceModel::Console(terminal) = self else {
+            return false;
+        };
+        terminal.resize(cols, rows);
+        true
     }
 
     /// Whether a chain is on offer that waits for what the host supplies or sends.
@@ -128,8 +115,8 @@ impl<A: Allocator> DeviceModel<A> {
         match self {
             DeviceModel::Entropy(entropy) => entropy.starved(mem, window, room),
             DeviceModel::Network(card) => card.starved(mem, window, room),
-            DeviceModel::Block(_) | DeviceModel::Image(_) => false,
             DeviceModel::Console(terminal) => terminal.starved(mem, window, room),
+            _ => false,
         }
     }
 
@@ -138,11 +125,8 @@ impl<A: Allocator> DeviceModel<A> {
         ensures { option_map (λ disk. disk.now) result ≡ disk_of (state_of self.now) }
     {
         match self {
-            DeviceModel::Entropy(_)
-            | DeviceModel::Network(_)
-            | DeviceModel::Console(_)
-            | DeviceModel::Image(_) => None,
             DeviceModel::Block(disk) => Some(disk),
+            _ => None,
         }
     }
 
@@ -151,11 +135,8 @@ impl<A: Allocator> DeviceModel<A> {
         ensures { result ≡ image_of (state_of self.now) }
     {
         match self {
-            DeviceModel::Entropy(_)
-            | DeviceModel::Network(_)
-            | DeviceModel::Block(_)
-            | DeviceModel::Console(_) => None,
             DeviceModel::Image(disk) => Some(*disk),
+            _ => None,
         }
     }
 
@@ -164,11 +145,8 @@ impl<A: Allocator> DeviceModel<A> {
         ensures { result ≡ is_at_work (state_of self.now) }
     {
         match self {
-            DeviceModel::Entropy(_)
-            | DeviceModel::Network(_)
-            | DeviceModel::Console(_)
-            | DeviceModel::Image(_) => false,
             DeviceModel::Block(disk) => disk.is_busy(),
+            _ => false,
         }
     }
 
@@ -199,11 +177,8 @@ impl<A: Allocator> DeviceModel<A> {
         ensures held { IsHeld mem.new window.new (state_of self.new) }
     {
         match self {
-            DeviceModel::Entropy(_)
-            | DeviceModel::Network(_)
-            | DeviceModel::Console(_)
-            | DeviceModel::Image(_) => None,
             DeviceModel::Block(disk) => Some(disk.tell(said, mem, window, room)),
+            _ => None,
         }
     }
 }

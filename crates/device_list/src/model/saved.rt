@@ -26,11 +26,8 @@ impl<A: Allocator> DeviceModel<A> {
         ensures { result ≡ mac_of (state_of self.now) }
     {
         match self {
-            DeviceModel::Entropy(_)
-            | DeviceModel::Block(_)
-            | DeviceModel::Console(_)
-            | DeviceModel::Image(_) => [0; 6],
             DeviceModel::Network(card) => card.configuration().mac,
+            _ => [0; 6],
         }
     }
 
@@ -39,11 +36,8 @@ impl<A: Allocator> DeviceModel<A> {
         ensures { result ≡ mtu_of (state_of self.now) }
     {
         match self {
-            DeviceModel::Entropy(_)
-            | DeviceModel::Block(_)
-            | DeviceModel::Console(_)
-            | DeviceModel::Image(_) => 0,
             DeviceModel::Network(card) => card.configuration().mtu,
+            _ => 0,
         }
     }
 
@@ -52,9 +46,9 @@ impl<A: Allocator> DeviceModel<A> {
         ensures { result ≡ sectors_of (state_of self.now) }
     {
         match self {
-            DeviceModel::Entropy(_) | DeviceModel::Network(_) | DeviceModel::Console(_) => 0,
             DeviceModel::Block(disk) => disk.device().extent.count,
             DeviceModel::Image(disk) => disk.extent.count,
+            _ => 0,
         }
     }
 
@@ -63,9 +57,9 @@ impl<A: Allocator> DeviceModel<A> {
         ensures { result ≡ identity_of (state_of self.now) }
     {
         match self {
-            DeviceModel::Entropy(_) | DeviceModel::Network(_) | DeviceModel::Console(_) => [0; 20],
             DeviceModel::Block(disk) => disk.device().identity,
             DeviceModel::Image(disk) => disk.identity,
+            _ => [0; 20],
         }
     }
 }
