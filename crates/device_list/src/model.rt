@@ -1,12 +1,12 @@
 //! What stands behind a device's window.
 
 ghost use Rattle.std.specs.Prelude.{◌≡◌, false, IfOk};
+ghost use Rattle.std.specs.Option.{option_map};
 ghost use Rattle.guest_memory.specs.Memory.{SameRange};
 ghost use Rattle.mmio_window.specs.Soundness.{IsSound};
 ghost use Rattle.negotiation.specs.Features.{feature_bits};
-ghost use Rattle.device_list.specs.Model.{IsHeld, KeepsModel, ModelServesTo, config_of, configured, features_of, fresh_model, has_bad_disk, has_bad_mtu, kind_of, must_wait, state_of};
+ghost use Rattle.device_list.specs.Model.{IsHeld, KeepsModel, ModelServesTo, config_of, configured, disk_of, features_of, fresh_model, has_bad_disk, has_bad_mtu, image_of, kind_of, must_wait, state_of};
 
-mod host;
 mod saved;
 
 use crate::card::NetworkCard;
@@ -112,6 +112,26 @@ impl<A: Allocator> DeviceModel<A> {
             DeviceModel::Block(disk) => disk.config(),
             DeviceModel::Console(terminal) => terminal.config(),
             DeviceModel::Image(disk) => disk.config(),
+        }
+    }
+
+    /// The disk that its host serves, if it is one.
+    pub fn disk(&self) -> Option<&HostedDisk<A>>
+        ensures { option_map (λ disk. disk.now) result ≡ disk_of (state_of self.now) }
+    {
+        match self {
+            DeviceModel::Block(disk) => Some(disk),
+            _ => None,
+        }
+    }
+
+    /// The disk over the image that it is, if it is one.
+    pub fn image_disk(&self) -> Option<BlockDevice>
+        ensures { result ≡ image_of (state_of self.now) }
+    {
+        match self {
+            DeviceModel::Image(disk) => Some(*disk),
+            _ => None,
         }
     }
 

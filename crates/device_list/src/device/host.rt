@@ -38,7 +38,11 @@ impl<A: Allocator> VirtioDevice<A> {
         ensures kept { result ≡ None → self.new ≡ self.old }
         ensures sound { (m : Memory) → IsSoundDevice m self.old → IsSoundDevice m self.new }
     {
-        self.model.supply(bytes)
+        match &mut self.model {
+            DeviceModel::Entropy(entropy) => Some(entropy.supply(bytes)),
+            DeviceModel::Console(terminal) => Some(terminal.supply(bytes)),
+            _ => None,
+        }
     }
 
     /// Takes a frame of the host, or refuses it. The receive queue is to be served next.
@@ -49,14 +53,21 @@ impl<A: Allocator> VirtioDevice<A> {
         ensures kept { OnErr result (self.new ≡ self.old) }
         ensures sound { (m : Memory) → IsSoundDevice m self.old → IsSoundDevice m self.new }
     {
-        self.model.receive(frame)
+        match &mut self.model {
+            DeviceModel::Network(card) => card.receive(frame).map_err(ReceiveRefusal::Frame),
+            _ => Err(ReceiveRefusal::NoDevice),
+        }
     }
 
     /// What the driver sent and the host takes now, in two parts: a card's oldest frame, or all output of a console.
     pub(crate) fn sent(&self) -> Option<(&[u8], &[u8])>
         ensures { option_map (λ parts. parts.0.now ++ parts.1.now) result ≡ sent_of self.now.model }
     {
-        self.model.sent()
+        match &self.model {
+            DeviceModel::Network(card) => card.sent(),
+            DeviceModel::Console(terminal) => terminal.sent(),
+            _ => None,
+        }
     }
 
     /// Takes that away. The transmit queue is to be served next. False where nothing waits: nothing has changed then.
@@ -66,7 +77,11 @@ impl<A: Allocator> VirtioDevice<A> {
         ensures kept { OnFalse result (self.new ≡ self.old) }
         ensures sound { (m : Memory) → IsSoundDevice m self.old → IsSoundDevice m self.new }
     {
-        self.model.take_sent()
+        match &mut self.model {
+            DeviceModel::Network(card) => card.take_sent(),
+            DeviceModel::Console(terminal) => terminal.take_sent(),
+            _ => false,
+        }
     }
 
     /// Sets whether the link is up, and tells the driver (5.1.4). False where it is no network card: nothing has changed then.
@@ -76,9 +91,10 @@ impl<A: Allocator> VirtioDevice<A> {
         ensures kept { OnFalse result (self.new ≡ self.old) }
         ensures sound { (m : Memory) → IsSoundDevice m self.old → IsSoundDevice m self.new }
     {
-        if !self.model.set_link(up) {
+        let DeviceModel::Network(card) = &mut self.model else {
             return false;
-        }
+        };
+        card.set_link(up);
         self.config_changed();
         true
     }
@@ -90,9 +106,10 @@ impl<A: Allocator> VirtioDevice<A> {
         ensures kept { OnFalse result (self.new ≡ self.old) }
         ensures sound { (m : Memory) → IsSoundDevice m self.old → IsSoundDevice m self.new }
     {
-        if !self.model.resize(cols, rows) {
+        let DeviceModel::Console(terminal) = &mut self.model else {
             return false;
-        }
+        };
+        terminal.resize(cols, rows);
         self.config_changed();
         true
     }
@@ -110,7 +127,12 @@ impl<A: Allocator> VirtioDevice<A> {
         requires sound { IsSoundDevice mem.now self.now }
         ensures { result ≡ is_starving self.now.model mem.now self.now.window }
     {
-        self.model.starved(mem, &self.window, room)
+        match &self.model {
+            DeviceModel::Entropy(entropy) => entropy.starved(mem, &self.window, room),
+            DeviceModel::Network(card) => card.starved(mem, &self.window, room),
+            DeviceModel::Console(terminal) => terminal.starved(mem, &self.window, room),
+            _ => false,
+        }
     }
 
     /// The disk that its host serves, if it is one.
@@ -124,7 +146,10 @@ impl<A: Allocator> VirtioDevice<A> {
     pub(crate) fn is_at_work(&self) -> bool
         ensures { result ≡ is_at_work self.now.model }
     {
-        self.model.is_at_work()
+        match &self.model {
+            DeviceModel::Block(disk) => disk.is_busy(),
+            _ => false,
+        }
     }
 
     /// Does what the host says of the disk that it is, and answers whether there was something to do. There is no answer of
@@ -143,6 +168,9 @@ impl<A: Allocator> VirtioDevice<A> {
         ensures range { SameRange mem.old mem.new }
         ensures sound { IsSoundDevice mem.new self.new }
     {
-        self.model.tell(said, mem, &mut self.window, room)
+        match &mut self.model {
+            DeviceModel::Block(disk) => Some(disk.tell(said, mem, &mut self.window, room)),
+            _ => None,
+        }
     }
 }
