@@ -1,7 +1,6 @@
 -- What is done to a further device begins: its service's first piece, or what is done at once.
-use Rattle.std.proofs.Common.{◌≡◌, inl, inr, length, ℕ, Bool, true, false, false, Option, Some, None, List, [], refl, sym, ◌∙◌, ap, subst}
-use Rattle.std.specs.Prelude.{if◌then◌else◌, is_none, is_some}
-use Rattle.std.specs.Bool.{OnTrue}
+use Rattle.std.proofs.Common.{◌≡◌, inl, inr, length, ℕ, true, false, false, Option, Some, None, List, [], refl, sym, ◌∙◌, ap, subst}
+use Rattle.std.specs.Prelude.{if◌then◌else◌, IfErr, IfOk, Result, Ok, Err, is_none, is_some}
 use Rattle.std.specs.List.{slice_get}
 use Rattle.std.specs.Option.{option_and_then, option_map, option_map_or}
 use Rattle.std.proofs.lemmas.Option.{same_Some}
@@ -27,7 +26,8 @@ use Rattle.board.specs.declared.reply.Reply.{Reply}
 use Rattle.board.specs.declared.reply.Reply.TheVariants.{BadRange, BadSlot, NoMemory}
 use Rattle.board.specs.Devices.{device_asks, devices_readied, further_service}
 use Rattle.board.specs.Pausing.{ComesTo, TurnsTo}
-use Rattle.board.specs.Quiet.{BeginsAtDevice, DoesToDevice, ServesFurther}
+use Rattle.board.specs.declared.slot.devices.Asked.{Asked}
+use Rattle.board.specs.Quiet.{AnswersAtDevice, AsksAtDevice, AsksImageDisk, BeginsAsked, BeginsAtDevice, DoesToDevice, ServesFurther}
 use Rattle.board.specs.Slot.{BoardSlot, state_of}
 use Rattle.board.proofs.FurtherPieces.{sender}
 use Rattle.board.specs.World.{MayGiveOverImage}
@@ -49,43 +49,64 @@ same_asks n _ image slot = refl
 
 module _ {A : Type 0} (n : ℕ) (what : DeviceEvent A) (budget : Budget) (old : BoardSlot) where
   -- the first piece of the service that it asks for
-  pub begins_further : (pause : Pause) (mid new : BoardSlot) (turn : Turn A)
-      → device_asks n what (state_of [] old) ≡ Some pause
-      → mid ≡ having old (devices_readied n what old.memory old.devices)
+  pub begins_further : (pause : Pause) (mid new : BoardSlot) (turn : Turn A) → AsksAtDevice n what old mid pause
       → ServesFurther pause First budget mid new turn → BeginsAtDevice n what budget old new turn
-  begins_further pause mid new turn asks is h = record {
+  begins_further pause mid new turn asks h = record {
     begins = λ image health.
         subst (λ (o : Option Pause). TurnsTo (λ c. MayGiveOverImage (state_of image old) (Device n what) health health c) o
-        (Device n what) budget (state_of image old) health health (state_of image new) [] turn) (sym (asks_so image))
+        (Device n what) budget (state_of image old) health health (state_of image new) [] turn)
+        (sym (same_asks n what image old ∙ asks.asks))
         (subst (λ (s : BoardSlot). ComesTo pause First budget (state_of image s) health health (state_of image new) [] turn)
-        is (h.comes image health));
-    rest = h.rest ∙ ap (λ (s : BoardSlot). record s { memory = new.memory; devices = new.devices }) is;
-    range = subst (λ (m : Memory). SameRange m new.memory) (ap (λ (s : BoardSlot). s.memory) is) h.range;
+        asks.readied (h.comes image health));
+    rest = h.rest ∙ ap (λ (s : BoardSlot). record s { memory = new.memory; devices = new.devices }) asks.readied;
+    range = subst (λ (m : Memory). SameRange m new.memory) (ap (λ (s : BoardSlot). s.memory) asks.readied) h.range;
     limited = h.limited;
     there = h.there;
     in_range = h.in_range;
     no_memory = λ lacks. absurd (h.answered lacks);
   }
-    where
-      -- the image has no part in what is asked for
-      asks_so : (image : List ℕ) → device_asks n what (state_of image old) ≡ Some pause
-      asks_so image = same_asks n what image old ∙ asks
 
   -- what asks for none is done at once
-  pub begins_at_once : (new : BoardSlot) (reply : Reply A) → device_asks n what (state_of [] old) ≡ None
-      → DoesToDevice n what old new reply → BeginsAtDevice n what budget old new (Answered reply)
-  begins_at_once new reply asks h = record {
+  pub begins_at_once : (new : BoardSlot) (reply : Reply A) → AnswersAtDevice n what old new reply
+      → BeginsAtDevice n what budget old new (Answered reply)
+  begins_at_once new reply h = record {
     begins = λ image health.
         subst (λ (o : Option Pause). TurnsTo (λ c. MayGiveOverImage (state_of image old) (Device n what) health health c) o
         (Device n what) budget (state_of image old) health health (state_of image new) [] (Answered reply))
-        (sym (same_asks n what image old ∙ asks)) (h.given image health);
-    rest = h.rest;
-    range = h.range;
+        (sym (same_asks n what image old ∙ h.asks)) (h.does.given image health);
+    rest = h.does.rest;
+    range = h.does.range;
     limited = λ next is. absurd (cc (is));
-    there = λ is. h.there (same_answer reply BadSlot is);
-    in_range = λ is. h.in_range (same_answer reply BadRange is);
-    no_memory = λ is image. h.no_memory (same_answer reply NoMemory is) image;
+    there = λ is. h.does.there (same_answer reply BadSlot is);
+    in_range = λ is. h.does.in_range (same_answer reply BadRange is);
+    no_memory = λ is image. h.does.no_memory (same_answer reply NoMemory is) image;
   }
+
+  -- so it begins, where so much was asked for
+  pub begun : (mid new : BoardSlot) (asked : Result Asked (Reply A)) (r : Result (Turn A) Pause)
+      → IfOk asked (λ a. AsksAtDevice n what old mid (further_service n a.queue a.taken))
+      → IfErr asked (AnswersAtDevice n what old mid) → BeginsAsked n asked budget mid new r
+      → IfOk r (BeginsAtDevice n what budget old new) × IfErr r (AsksImageDisk (Device n what) old new)
+  begun mid new (Ok asked) (Ok turn) asks answers h =
+      (begins_further (further_service n asked.queue asked.taken) mid new turn asks h, tt)
+  begun mid new (Ok asked) (Err pause) asks answers h =
+      let at : AsksAtDevice n what old new pause =
+      subst (λ (s : BoardSlot). AsksAtDevice n what old s pause) (sym h.1.1)
+      (subst (λ (p : Pause). AsksAtDevice n what old mid p) (sym h.0) asks) in (
+        tt,
+        record {
+          asks = λ image. same_asks n what image old ∙ at.asks;
+          image = h.1.0;
+          readied = λ image. ap (state_of image) at.readied;
+          rest = at.readied ∙ ap (λ (s : BoardSlot). having old s.devices) (sym at.readied);
+        },
+      )
+  begun mid new (Err reply) (Ok turn) asks answers h = (
+    subst (λ (t : Turn A). BeginsAtDevice n what budget old new t) (sym h.0)
+        (begins_at_once new reply (subst (λ (s : BoardSlot). AnswersAtDevice n what old s reply) (sym h.1) answers)),
+    tt,
+  )
+  begun mid new (Err reply) (Err pause) asks answers h = absurd h
 
 -- ---- what asks for it
 
@@ -141,57 +162,51 @@ module _ (A : Type 0) (n : ℕ) (slot : BoardSlot) where
       by_sent None is = refl
       by_sent (Some sent) is = absurd (cc (is))
 
--- so it begins, in the slot that was seen so
-module _ {A : Type 0} (n : ℕ) (budget : Budget) (view old : BoardSlot) (seen : view ≡ old) (changed : List DeviceState)
-    (new : BoardSlot) (turn : Turn A) where
-  begins_so : (what : DeviceEvent A) (pause : Pause) → device_asks n what (state_of [] view) ≡ Some pause
-      → changed ≡ devices_readied n what view.memory view.devices
-      → ServesFurther pause First budget (having view changed) new turn → BeginsAtDevice n what budget old new turn
-  begins_so what pause asks is h =
-      subst (λ (s : BoardSlot). BeginsAtDevice n what budget s new turn) seen
-      (begins_further n what budget view pause (having view changed) new turn asks
-      (ap (λ (l : List DeviceState). having view l) is) h)
+-- so it asks for it, in the slot that was seen so
+module _ (A : Type 0) (n : ℕ) (view old : BoardSlot) (seen : view ≡ old) (changed : List DeviceState) where
+  asks_so : (what : DeviceEvent A) (pause : Pause) → device_asks n what (state_of [] view) ≡ Some pause
+      → changed ≡ devices_readied n what view.memory view.devices → AsksAtDevice n what old (having view changed) pause
+  asks_so what pause asks is =
+      subst (λ (s : BoardSlot). AsksAtDevice n what s (having view changed) pause) seen
+      (record { asks = asks; readied = ap (λ (l : List DeviceState). having view l) is })
 
-  pub write_begins : (offset width value q : ℕ)
+  pub write_asked : (offset width value q : ℕ)
       → Some (Some q) ≡ option_map (notified_at offset width value) (slice_get view.devices n)
       → option_map (waits_at offset) (slice_get view.devices n) ≡ Some false
       → changed ≡ changed_at (device_written offset width value view.memory) n view.devices
-      → ServesFurther (further_service n q None) First budget (having view changed) new turn
-      → BeginsAtDevice n (Write offset width value) budget old new turn
-  write_begins offset width value q notified free =
-      begins_so (Write offset width value) (further_service n q None)
+      → AsksAtDevice {A = A} n (Write offset width value) old (having view changed) (further_service n q None)
+  write_asked offset width value q notified free =
+      asks_so (Write offset width value) (further_service n q None)
       (write_asks A n view offset width value q notified free)
 
-  pub supply_begins : (bytes : List ℕ) (taken : ℕ)
+  pub supply_asked : (bytes : List ℕ) (taken : ℕ)
       → Some taken ≡ option_and_then (supply_taken bytes) (slice_get view.devices n)
       → changed ≡ changed_at (with_model (supplied bytes)) n view.devices
-      → ServesFurther (further_service n 0 (Some taken)) First budget (having view changed) new turn
-      → BeginsAtDevice n (Supply bytes) budget old new turn
-  supply_begins bytes taken takes =
-      begins_so (Supply bytes) (further_service n 0 (Some taken)) (supply_asks A n view bytes taken takes)
+      → AsksAtDevice {A = A} n (Supply bytes) old (having view changed) (further_service n 0 (Some taken))
+  supply_asked bytes taken takes =
+      asks_so (Supply bytes) (further_service n 0 (Some taken)) (supply_asks A n view bytes taken takes)
 
-  pub receive_begins : (frame : List ℕ) → receive_refusal frame (card_at n view.devices) ≡ None
+  pub receive_asked : (frame : List ℕ) → receive_refusal frame (card_at n view.devices) ≡ None
       → changed ≡ changed_at (with_model (received frame)) n view.devices
-      → ServesFurther (further_service n 0 (Some (length frame))) First budget (having view changed) new turn
-      → BeginsAtDevice n (Receive frame) budget old new turn
-  receive_begins frame takes =
-      begins_so (Receive frame) (further_service n 0 (Some (length frame))) (receive_asks A n view frame takes)
+      → AsksAtDevice {A = A} n (Receive frame) old (having view changed) (further_service n 0 (Some (length frame)))
+  receive_asked frame takes =
+      asks_so (Receive frame) (further_service n 0 (Some (length frame))) (receive_asks A n view frame takes)
 
-  pub drop_begins : (count : ℕ) (taken : Bool) → Some count ≡ option_map (λ sent. length sent) (sent_by n view.devices)
-      → taken ≡ is_some (sent_by n view.devices)
-      → OnTrue taken (changed ≡ changed_at (with_model without_sent) n view.devices)
-      → ServesFurther (further_service n 1 (Some count)) First budget (having view changed) new turn
-      → BeginsAtDevice n DropSent budget old new turn
-  drop_begins count taken is found change =
-      begins_so DropSent (further_service n 1 (Some count)) (drop_asks A n view count is)
-      (by_sent (sent_by n view.devices) taken is found change)
-    where
-      by_sent : (sent : Option (List ℕ)) (taken : Bool) → Some count ≡ option_map (λ sent. length sent) sent
-          → taken ≡ is_some sent → OnTrue taken (changed ≡ changed_at (with_model without_sent) n view.devices)
-          → changed ≡ changed_at (with_model without_sent) n view.devices
-      by_sent None taken is found change = absurd (cc (is))
-      by_sent (Some sent) true is found change = change
-      by_sent (Some sent) false is found change = absurd (cc (found))
+  pub drop_asked : (count : ℕ) → Some count ≡ option_map (λ sent. length sent) (sent_by n view.devices)
+      → changed ≡ changed_at (with_model without_sent) n view.devices
+      → AsksAtDevice {A = A} n DropSent old (having view changed) (further_service n 1 (Some count))
+  drop_asked count is = asks_so DropSent (further_service n 1 (Some count)) (drop_asks A n view count is)
+
+  -- where nothing was sent it is answered at once
+  pub nothing_dropped : (reply : Reply A) → None ≡ option_map (λ (sent : List ℕ). length sent) (sent_by n view.devices)
+      → changed ≡ view.devices → DoesToDevice n DropSent (having view changed) (having view changed) reply
+      → AnswersAtDevice n DropSent old (having view changed) reply
+  nothing_dropped reply none same does = record {
+    asks = nothing_asks A n old
+        (subst (λ (s : BoardSlot). None ≡ option_map (λ (sent : List ℕ). length sent) (sent_by n s.devices)) seen none);
+    does = subst (λ (s : BoardSlot). DoesToDevice n DropSent s (having view changed) reply)
+        (ap (λ (l : List DeviceState). having view l) same ∙ seen) does;
+  }
 
 -- ---- what was sent is taken
 
@@ -205,12 +220,17 @@ unlimited_ends stage More n q m m' old new h =
       | inr limit ↦ absurd (limit refl)
     ]
 
-pub taken_at : (n : ℕ) (m m' : Memory) (old mid new : List DeviceState) (progress : Progress)
-    → is_some (sent_by n old) ≡ true → mid ≡ changed_at (with_model without_sent) n old
+some_sent : (sent : Option (List ℕ)) (count : ℕ) → Some count ≡ option_map (λ (sent : List ℕ). length sent) sent
+    → is_some sent ≡ true
+some_sent None count is = absurd (cc (is))
+some_sent (Some sent) count is = refl
+
+pub taken_at : (n : ℕ) (m m' : Memory) (old mid new : List DeviceState) (progress : Progress) (count : ℕ)
+    → Some count ≡ option_map (λ (sent : List ℕ). length sent) (sent_by n old) → mid ≡ changed_at (with_model without_sent) n old
     → DevicesServeTo First (record { chains = None; bytes = None }) progress n 1 m m' mid new
     → At TakesSent n m m' old new
-taken_at n m m' old mid new progress sent is h =
-    let from = sender n old (slice_get old n) refl sent in
+taken_at n m m' old mid new progress count sent is h =
+    let from = sender n old (slice_get old n) refl (some_sent (sent_by n old) count sent) in
     let change = with_model without_sent in
     let done = unlimited_ends First progress n 1 m m' mid new h in
     let served = subst (λ (p : Progress). DevicesServeTo First (record { chains = None; bytes = None }) p n 1 m m' mid new)

@@ -25,6 +25,10 @@ use Rattle.board.specs.Pausing.{Begins, BeginsOverImage, ComesTo, GoesOn, GoesOn
 use Rattle.board.specs.declared.pause.Service.TheVariants as service
 use Rattle.board.specs.Machine.{action_at, task_at, with_input}
 use Rattle.board.specs.Quiet.{BeginsAtDevice, BeginsQuietly}
+use Rattle.board.specs.Devices.{TakesMemoryFor}
+use Rattle.board.specs.InPlace.{done_in}
+use Rattle.board.specs.declared.in_place.DeviceInPlace.{DeviceInPlace}
+use Rattle.board.specs.declared.in_place.DeviceInPlace.TheVariants as slice
 use Rattle.board.specs.Restoring.{refusal_of, restore_reply, taken_up_reply}
 use Rattle.board.specs.Saved.{IsCauseOf, IsRestored}
 use Rattle.board.specs.declared.saved.RestoreFault.{RestoreFault}
@@ -163,6 +167,14 @@ device_begins n what budget old new turn answered does = record {
   in_range = does.in_range;
   answered = answered;
 }
+
+-- what is done to a device in a slice takes no memory
+pub takes_none : (A : Type 0) (n : ℕ) (what : DeviceInPlace) (state : SlotState) → TakesMemoryFor {A = A} n (done_in what) state
+    → ⊥
+takes_none A n (slice.Write offset width value) state h = h
+takes_none A n (slice.Supply bytes) state h = h
+takes_none A n slice.DropSent state h = h
+takes_none A n (slice.Receive frame) state h = h
 
 -- and what is typed
 pub input_begins : {A : Type 0} (bytes : List ℕ) (budget : Budget) (old new : BoardSlot) (turn : Turn A)

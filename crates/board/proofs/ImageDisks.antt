@@ -1,8 +1,7 @@
 -- The disks over a slot's sectors of the image: what each leaves of the others', and what a piece of a service comes to.
 use Rattle.std.proofs.Common.{◌≡◌, ◌≢◌, ◌⊎◌, inl, inr, ℕ, zero, suc, ◌+◌, ◌*◌, ◌≤◌, Bool, true, false, Option, Some, None, Result, Ok, Err, List, [], length, take, drop, refl, sym, ap, subst, ◌∙◌, append-nil, arith, length-take, length-drop}
 use Rattle.std.specs.Prelude.{◌-◌, IfErr, IfOk, OnErr, is_err, if◌then◌else◌, nat_le, nat_lt, is_some, IsSome, IfSome}
-use Rattle.std.specs.List.{slice_get}
-use Rattle.std.specs.Option.{option_and_then, option_map}
+use Rattle.std.specs.Option.{option_map}
 use Rattle.std.proofs.lemmas.Bool.{cases_eq}
 use Rattle.std.proofs.lemmas.Bool.Decides.{nat_tests}
 use Rattle.std.proofs.lemmas.Option.{same_Some}
@@ -23,11 +22,9 @@ use Rattle.block_device.specs.declared.request.Request.{Request}
 use Rattle.block_device.specs.Device.{device_by}
 use Rattle.block_device.specs.Extent.{IsWithin, SameContentsOutside, SameOutside, StaysInExtent, TouchesExtent, extent_disk}
 use Rattle.block_device.specs.Outcome.{Outcome, Completes, Ends}
-use Rattle.device_list.specs.Card.{Card, receive_refusal}
-use Rattle.device_list.specs.Device.{DeviceState, received, supplied, supply_taken, with_model}
+use Rattle.device_list.specs.Device.{DeviceState}
 use Rattle.device_list.specs.Image.{DevicesServeImageTo, ServesIfImage, ServesImageTo, moved, placed}
-use Rattle.device_list.specs.List.{At, card_at, changed_at, image_at}
-use Rattle.device_list.proofs.Disks.{reception_keeps, supply_keeps}
+use Rattle.device_list.specs.List.{At, image_at}
 use Rattle.board.specs.declared.event.DeviceEvent.{DeviceEvent}
 use Rattle.board.specs.declared.event.EventKind.{EventKind}
 use Rattle.board.specs.declared.event.EventKind.TheVariants.{Write, Input, Device}
@@ -49,7 +46,7 @@ use Rattle.board.specs.Task.{Task, Nothing, Serve, PutOut}
 use Rattle.board.specs.World.{HasBytesToPutOut, MayLackMemory, TakesMemory}
 use Rattle.board.specs.Pausing.{BeginsOverImage, ComesTo, PausesByLimit, ServesTurn, IsImageDiskPiece, IsAnyImageDiskPiece, IsFurtherPiece, IsPiece, IsPieceAtDevice, asked_by, asked_over_image, input_service, readied, turn_of}
 use Rattle.board.specs.Slot.{BoardSlot, IsUnnoted, SlotState, state_of, spare_start, whole_extent}
-use Rattle.board.proofs.AtDevice.{card_is_no_image, hosted_serves_none, none_there, supply_is_no_image}
+use Rattle.board.proofs.AtDevice.{hosted_serves_none}
 use Rattle.board.proofs.Blocks.{seen_disk}
 use Rattle.board.proofs.Beside.{range_of}
 use Rattle.board.proofs.FurtherPieces.{asking, device_within}
@@ -278,29 +275,6 @@ pub further_piece : (slot : BoardSlot) (image : List ℕ) (n q : ℕ) (stage : S
 further_piece slot image n q stage budget progress health new output none h =
     subst (λ (o : Option BlockDevice). IsPieceAtDevice o n q stage budget progress (state_of image slot) health health new
     output) (sym (served_any (Further n q) slot image ∙ none)) h
-
--- a device that takes what is supplied, or a frame, is no disk
-pub supplied_none : (n : ℕ) (bytes : List ℕ) (devices changed : List DeviceState) (taken : ℕ) (host : Option HostedDisk)
-    (spare : ℕ) → Some taken ≡ option_and_then (supply_taken bytes) (slice_get devices n)
-    → changed ≡ changed_at (with_model (supplied bytes)) n devices
-    → image_disk_of host spare (image_at n changed) ≡ None
-supplied_none n bytes devices changed taken host spare takes is =
-    none_there host spare (image_at n changed)
-    (ap (λ (l : List DeviceState). image_at n l) is ∙ supply_keeps n n bytes devices
-    ∙ supply_is_no_image n devices bytes taken (sym takes))
-
-pub received_none : (n : ℕ) (frame : List ℕ) (devices changed : List DeviceState) (host : Option HostedDisk) (spare : ℕ)
-    → receive_refusal frame (card_at n devices) ≡ None → changed ≡ changed_at (with_model (received frame)) n devices
-    → image_disk_of host spare (image_at n changed) ≡ None
-received_none n frame devices changed host spare takes is =
-    none_there host spare (image_at n changed)
-    (ap (λ (l : List DeviceState). image_at n l) is ∙ reception_keeps n n frame devices
-    ∙ by_card (card_at n devices) refl takes)
-  where
-    by_card : (card : Option Card) → card_at n devices ≡ card → receive_refusal frame card ≡ None
-        → image_at n devices ≡ None
-    by_card None there takes = absurd (cc takes)
-    by_card (Some card) there takes = card_is_no_image n devices card there
 
 -- ---- a piece of its service
 

@@ -6,20 +6,19 @@ use Rattle.std.proofs.lemmas.Option.{same_Some}
 use Rattle.chain.specs.declared.budget.Budget.{Budget}
 use Rattle.mmio_window.specs.declared.stage.Stage.{Stage}
 use Rattle.mmio_window.specs.declared.stage.Stage.TheVariants.{First}
-use Rattle.board.specs.declared.event.DeviceEvent.TheVariants as device
 use Rattle.board.specs.declared.event.Event.{Event}
 use Rattle.board.specs.declared.event.EventKind.{EventKind}
 use Rattle.board.specs.declared.in_place.InPlace.{InPlace}
-use Rattle.board.specs.declared.in_place.InPlace.TheVariants.{Input, Write, Supply, Receive, DropSent}
+use Rattle.board.specs.declared.in_place.InPlace.TheVariants.{Input, Device}
 use Rattle.board.specs.declared.pause.Pause.{Pause}
 use Rattle.board.specs.declared.pause.Service.{Service}
-use Rattle.board.specs.declared.pause.Service.TheVariants.{Block, Receive as ReceiveQueue, Transmit, Further}
+use Rattle.board.specs.declared.pause.Service.TheVariants.{Block, Receive, Transmit, Further}
 use Rattle.board.specs.declared.pause.Turn.{Turn}
 use Rattle.board.specs.declared.pause.Turn.TheVariants as turn
 use Rattle.board.specs.declared.reply.Reply.{Reply}
 use Rattle.board.specs.Hosting.{has_part}
 use Rattle.board.specs.Image.{Health}
-use Rattle.board.specs.InPlace.{event_in}
+use Rattle.board.specs.InPlace.{done_in, event_in}
 use Rattle.board.specs.Pausing.{ServesTurn, asked, asked_over_image, readied}
 use Rattle.board.specs.Slot.{SlotState}
 use Rattle.board.specs.World.{Answers, World}
@@ -31,33 +30,21 @@ piece_quiet : {A : Type 0} (service : Service) (limit : ℕ) (pause : Pause) (st
     → PieceBy service limit pause stage budget found after waiting left t
 piece_quiet Transmit limit pause stage budget found after waiting left t other = absurd (other refl)
 piece_quiet Block limit pause stage budget found after waiting left t other = tt
-piece_quiet ReceiveQueue limit pause stage budget found after waiting left t other = tt
+piece_quiet Receive limit pause stage budget found after waiting left t other = tt
 piece_quiet (Further n q) limit pause stage budget found after waiting left t other = tt
 
 no_transmit : (A : Type 0) (what : InPlace) (state : SlotState) (pause : Pause)
     → asked_over_image {A = A} (event_in what) state ≡ Some pause → pause.service ≢ Transmit
 no_transmit A (Input bytes) state pause asks is =
-    let other : ReceiveQueue ≡ Transmit = ap (λ (p : Pause). p.service) (same_Some _ pause asks) ∙ is in cc (other)
-no_transmit A (Write n offset width value) state pause asks is =
-    let a = asking {A = A} n (device.Write offset width value) state pause asks in
-    let other : Further n a.queue ≡ Transmit = sym (ap (λ (p : Pause). p.service) a.is) ∙ is in cc (other)
-no_transmit A (Supply n bytes) state pause asks is =
-    let a = asking {A = A} n (device.Supply bytes.now) state pause asks in
-    let other : Further n a.queue ≡ Transmit = sym (ap (λ (p : Pause). p.service) a.is) ∙ is in cc (other)
-no_transmit A (Receive n frame) state pause asks is =
-    let a = asking {A = A} n (device.Receive frame.now) state pause asks in
-    let other : Further n a.queue ≡ Transmit = sym (ap (λ (p : Pause). p.service) a.is) ∙ is in cc (other)
-no_transmit A (DropSent n) state pause asks is =
-    let a = asking {A = A} n device.DropSent state pause asks in
+    let other : Receive ≡ Transmit = ap (λ (p : Pause). p.service) (same_Some _ pause asks) ∙ is in cc (other)
+no_transmit A (Device n what) state pause asks is =
+    let a = asking {A = A} n (done_in what) state pause asks in
     let other : Further n a.queue ≡ Transmit = sym (ap (λ (p : Pause). p.service) a.is) ∙ is in cc (other)
 
 takes_quiet : {A : Type 0} (what : InPlace) (limit : ℕ) (found after : SlotState) (waiting left : List ℕ)
     (reply : Reply A) → TakesWithin limit found (event_in what) after waiting left reply
 takes_quiet (Input bytes) limit found after waiting left reply = tt
-takes_quiet (Write n offset width value) limit found after waiting left reply = tt
-takes_quiet (Supply n bytes) limit found after waiting left reply = tt
-takes_quiet (Receive n frame) limit found after waiting left reply = tt
-takes_quiet (DropSent n) limit found after waiting left reply = tt
+takes_quiet (Device n what) limit found after waiting left reply = tt
 
 -- no outlet decides a turn that pauses only before another service than a transmit
 module _ {A : Type 0} (limit : ℕ) (what : EventKind A) (budget : Budget) (found after : SlotState)

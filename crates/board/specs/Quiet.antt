@@ -1,8 +1,10 @@
 -- An event that leaves the image alone and puts nothing out.
-use Rattle.std.specs.Prelude.{◌≡◌, ◌≢◌, ℕ, IsSome, Some, List, []}
+use Rattle.std.specs.Prelude.{◌≡◌, ◌≢◌, ℕ, IsSome, None, Some, List, [], Result, Ok, Err}
 use Rattle.guest_memory.specs.Memory.{SameRange}
 use Rattle.chain.specs.declared.budget.Budget.{Budget}
 use Rattle.mmio_window.specs.declared.stage.Stage.{Stage}
+use Rattle.mmio_window.specs.declared.stage.Stage.TheVariants.{First}
+use Rattle.board.specs.declared.slot.devices.Asked.{Asked}
 use Rattle.board.specs.declared.event.DeviceEvent.{DeviceEvent}
 use Rattle.board.specs.declared.event.EventKind.{EventKind}
 use Rattle.board.specs.declared.event.EventKind.TheVariants.{Device}
@@ -11,7 +13,7 @@ use Rattle.board.specs.declared.pause.Turn.{Turn}
 use Rattle.board.specs.declared.pause.Turn.TheVariants.{Answered}
 use Rattle.board.specs.declared.reply.Reply.{Reply}
 use Rattle.board.specs.declared.reply.Reply.TheVariants.{BadRange, BadSlot, NoMemory}
-use Rattle.board.specs.Devices.{TakesMemoryFor}
+use Rattle.board.specs.Devices.{TakesMemoryFor, device_asks, devices_readied, further_service}
 use Rattle.board.specs.Image.{Health, sectors_of}
 use Rattle.board.specs.ImageDisks.{image_served_in}
 use Rattle.board.specs.Outcome.{replies}
@@ -58,6 +60,17 @@ pub record ServesFurther {A : Type 0} (pause : Pause) (stage : Stage) (budget : 
   pub in_range : turn ≢ Answered BadRange
   pub answered : turn ≢ Answered NoMemory
 
+-- What is done to further device n of a slot asks for this service, and the slot is as that finds it.
+pub record AsksAtDevice {A : Type 0} (n : ℕ) (what : DeviceEvent A) (old new : BoardSlot) (pause : Pause) : Type 0 where
+  pub asks : device_asks n what (state_of [] old) ≡ Some pause
+  pub readied : new ≡ record old { devices = devices_readied n what old.memory old.devices }
+
+-- It asks for none, and is answered so.
+pub record AnswersAtDevice {A : Type 0} (n : ℕ) (what : DeviceEvent A) (old new : BoardSlot) (reply : Reply A)
+    : Type 0 where
+  pub asks : device_asks n what (state_of [] old) ≡ None
+  pub does : DoesToDevice n what old new reply
+
 -- An event asks for this service of a further disk over the image, and the slot is as that finds it. Of the slot only its
 -- devices changed.
 pub record AsksImageDisk {A : Type 0} (what : EventKind A) (old new : BoardSlot) (pause : Pause) : Type 0 where
@@ -91,3 +104,14 @@ pub record BeginsQuietly {A : Type 0} (old : BoardSlot) (what : EventKind A) (bu
   pub there : turn ≢ Answered BadSlot
   pub in_range : turn ≢ Answered BadRange
   pub answered : turn ≢ Answered NoMemory
+
+-- What begins where so much was asked for of further device n: the first piece of its service, unless that is over the image,
+-- which is to begin; or nothing more, where it was answered.
+abbrev pub BeginsAsked : {A : Type 0} → ℕ → Result Asked (Reply A) → Budget → BoardSlot → BoardSlot
+    → Result (Turn A) Pause → Type 0
+BeginsAsked n (Ok asked) budget old new (Ok turn) =
+    ServesFurther (further_service n asked.queue asked.taken) First budget old new turn
+BeginsAsked n (Ok asked) budget old new (Err pause) =
+    (pause ≡ further_service n asked.queue asked.taken) × (IsSome (image_served_in pause.service new) × (new ≡ old))
+BeginsAsked n (Err reply) budget old new (Ok turn) = (turn ≡ Answered reply) × (new ≡ old)
+BeginsAsked n (Err reply) budget old new (Err pause) = ⊥

@@ -1,6 +1,11 @@
 //! What comes in: the events of the guests and of their consoles.
 
+ghost use Rattle.std.specs.Prelude.{◌≡◌, IfNone, IfSome};
+ghost use Rattle.board.specs.Devices.{IsAtOnce};
+ghost use Rattle.board.specs.InPlace.{done_in};
+
 use crate::bytes::Bytes;
+use crate::in_place::DeviceInPlace;
 use block_device::HostEvent;
 use device_list::DeviceSpec;
 use std::alloc::{Allocator, Global};
@@ -100,4 +105,28 @@ pub enum DeviceEvent<A: Allocator = Global> {
     Resize { cols: u16, rows: u16 },
     /// The host says this of a disk that it serves.
     Host(HostEvent),
+}
+
+impl<A: Allocator> DeviceEvent<A> {
+    // The same with its bytes in a slice, if it may ask for a service that pauses.
+    pub(crate) fn in_place(&self) -> Option<DeviceInPlace<'_>>
+        ensures some { IfSome result (λ what. done_in what ≡ self.now) }
+        ensures none { IfNone result (IsAtOnce self.now) }
+    {
+        match self {
+            DeviceEvent::Write {
+                offset,
+                width,
+                value,
+            } => Some(DeviceInPlace::Write {
+                offset: *offset,
+                width: *width,
+                value: *value,
+            }),
+            DeviceEvent::Supply { bytes } => Some(DeviceInPlace::Supply(bytes.as_slice())),
+            DeviceEvent::Receive { frame } => Some(DeviceInPlace::Receive(frame.as_slice())),
+            DeviceEvent::DropSent => Some(DeviceInPlace::DropSent),
+            _ => None,
+        }
+    }
 }

@@ -5,25 +5,19 @@
 pub enum InPlace<'a> {
     /// Bytes are typed to the console: `EventKind::Input`.
     Input(&'a [u8]),
-    /// A register of a further device's window is written: `DeviceEvent::Write`.
-    Write {
-        device: u8,
-        offset: u16,
-        width: u8,
-        value: u32,
-    },
-    /// A further device is supplied with bytes: `DeviceEvent::Supply`.
-    Supply {
-        device: u8,
-        bytes: &'a [u8],
-    },
-    /// What a further device's driver sent is dropped: `DeviceEvent::DropSent`.
-    DropSent {
-        device: u8,
-    },
-    /// A network card is handed a frame: `DeviceEvent::Receive`.
-    Receive {
-        device: u8,
-        frame: &'a [u8],
-    },
+    /// This is done to one of the further devices: `EventKind::Device`.
+    Device { device: u8, what: DeviceInPlace<'a> },
+}
+
+/// What is done to a further device and may ask for a service of it that pauses.
+#[derive(Clone, Copy, Debug)]
+pub enum DeviceInPlace<'a> {
+    /// A register of its window is written: `DeviceEvent::Write`.
+    Write { offset: u16, width: u8, value: u32 },
+    /// It is supplied with bytes: `DeviceEvent::Supply`.
+    Supply(&'a [u8]),
+    /// What its driver sent is dropped: `DeviceEvent::DropSent`.
+    DropSent,
+    /// It is handed a frame: `DeviceEvent::Receive`.
+    Receive(&'a [u8]),
 }

@@ -45,7 +45,7 @@ pub use device_list::{AddRefusal, DeviceSpec, HostedDisk, MOST_DEVICES, VirtioDe
 pub use event::{DeviceEvent, Event, EventKind, SlotWindow};
 pub use fault::{BoardFault, SlotFault};
 pub use guest_memory::{GuestMemory, MemoryFault, RegionSpec, Regions};
-pub use in_place::InPlace;
+pub use in_place::{DeviceInPlace, InPlace};
 pub use laws::{
     a_cut_event_touches_no_other_disk, a_disk_does_as_its_host_says, a_dropped_slot_never_waits,
     a_failed_event_keeps_the_rest, a_flight_outlasts_own_events, a_guest_alone_has_one_run,

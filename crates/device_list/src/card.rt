@@ -1,6 +1,6 @@
 //! A network card: a network device, and the frames that its driver transmitted and its host hasn't taken.
 
-ghost use Rattle.std.specs.Prelude.{◌≡◌, ◌≤◌, ◌++◌, Some, None, IfOk, IfErr, OnOk, OnErr, is_some};
+ghost use Rattle.std.specs.Prelude.{◌≡◌, ◌≤◌, ◌++◌, Some, None, IfOk, IfErr, OnOk, OnErr, length};
 ghost use Rattle.std.specs.Option.{option_map};
 ghost use Rattle.guest_memory.specs.Memory.{SameRange};
 ghost use Rattle.mmio_window.specs.Soundness.{IsSound};
@@ -92,14 +92,14 @@ impl<A: Allocator> NetworkCard<A> {
         self.sent.front()
     }
 
-    /// Takes that frame away. False where none waits.
-    pub(crate) fn take_sent(&mut self) -> bool
-        ensures found { result ≡ is_some (oldest_of self.old) }
+    /// Takes that frame away, and answers how many bytes it has. There is no answer where none waits.
+    pub(crate) fn take_sent(&mut self) -> Option<usize>
+        ensures count { result ≡ option_map (λ sent. length sent) (oldest_of self.old) }
         ensures taken { self.new ≡ without_oldest self.old }
     {
-        let found = self.sent.count() > 0;
+        let count = self.sent.frame_len(0);
         self.sent.pop();
-        found
+        count
     }
 
     /// Sets whether the link is up. Its window is told by the caller.

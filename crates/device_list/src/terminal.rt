@@ -1,6 +1,6 @@
 //! A console among the further devices: a console device, and the output that its host hasn't taken.
 
-ghost use Rattle.std.specs.Prelude.{◌≡◌, ◌++◌, IfOk, is_some};
+ghost use Rattle.std.specs.Prelude.{◌≡◌, ◌++◌, IfOk, length};
 ghost use Rattle.std.specs.Option.{option_map};
 ghost use Rattle.guest_memory.specs.Memory.{SameRange};
 ghost use Rattle.mmio_window.specs.Soundness.{IsSound};
@@ -96,14 +96,17 @@ impl<A: Allocator> Terminal<A> {
         Some(self.output.waiting())
     }
 
-    /// Takes that output away. False where none waits.
-    pub(crate) fn take_sent(&mut self) -> bool
-        ensures found { result ≡ is_some (output_of self.old) }
+    /// Takes that output away, and answers how many bytes it has. There is no answer where none waits.
+    pub(crate) fn take_sent(&mut self) -> Option<usize>
+        ensures count { result ≡ option_map (λ sent. length sent) (output_of self.old) }
         ensures taken { self.new ≡ without_output self.old }
     {
-        let found = self.output.len() > 0;
+        let count = self.output.len();
+        if count == 0 {
+            return None;
+        }
         self.output.clear();
-        found
+        Some(count)
     }
 
     /// Changes the size. Its window is told by the caller.

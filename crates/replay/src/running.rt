@@ -20,7 +20,8 @@ ghost use Rattle.trace.specs.Words.{Says, Bytes as ByBytes};
 
 use crate::asking::{put_asked, staying, staying_further};
 use board::{
-    Board, DeviceEvent, Event, EventKind, Handled, InPlace, Reply, RestoreRefusal, SlotWindow,
+    Board, DeviceEvent, DeviceInPlace, Event, EventKind, Handled, InPlace, Reply, RestoreRefusal,
+    SlotWindow,
 };
 use sector_cache::Image;
 use std::alloc::Allocator;
@@ -184,12 +185,26 @@ fn answer_device<I: Image, A: Allocator + Copy>(
     match what {
         DeviceEvent::Supply { .. } => {
             let bytes = bytes_in(room, parsed.bytes);
-            let reply = do_in_place(board, slot, InPlace::Supply { device, bytes });
+            let reply = do_in_place(
+                board,
+                slot,
+                InPlace::Device {
+                    device,
+                    what: DeviceInPlace::Supply(bytes),
+                },
+            );
             told(reply, words(board, slot))
         }
         DeviceEvent::Receive { .. } => {
             let frame = bytes_in(room, parsed.bytes);
-            let reply = do_in_place(board, slot, InPlace::Receive { device, frame });
+            let reply = do_in_place(
+                board,
+                slot,
+                InPlace::Device {
+                    device,
+                    what: DeviceInPlace::Receive(frame),
+                },
+            );
             told(reply, words(board, slot))
         }
         _ => board.handle(slot, &parsed.event.what, output),

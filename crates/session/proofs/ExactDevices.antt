@@ -22,7 +22,7 @@ use Rattle.session.specs.declared.refusal.Refusal.TheVariants as refusal
 use Rattle.session.specs.declared.response.Response.{Response}
 use Rattle.session.specs.declared.response.Response.TheVariants.{Answered, More, Busy, Idle}
 use Rattle.session.specs.Answering.{Means, Suits, SuitsCall, served_response}
-use Rattle.session.specs.Devices.{TakesNothing}
+use Rattle.session.specs.Devices.{RefusesAtDevice, TakesNothing}
 use Rattle.session.specs.Operations.{HasNoDisk, HasNothing, HoldsUp, IsSpare}
 use Rattle.session.specs.Pausing.{IsEventCall, IsToldCall}
 use Rattle.session.specs.Session.{IsIdle, SessionState}
@@ -44,42 +44,37 @@ device_bad {A} old new slot n what many =
     let exact = bad_exact n what (state_of old.image one) _ came.after came.outcome came.given in
     (λ is. exact.0 (came.said ∙ says.0 is), λ bad. says.1 (sym came.said ∙ exact.1 bad)))
 
--- what each refusal says that is answered to what is done to a further device
-pub record DeviceRefuses {A T : Type 0} (old : SessionState) (slot n : ℕ) (what : DeviceEvent A)
-    (r : Result T Refusal) : Type 0 where
-  pub bad_slot : IsErrOf r refusal.BadSlot ↔ (length old.slots ≤ slot)
-  pub waits : IsErrOf r refusal.Busy ↔ ((¬ IsIdle slot old) ⊎ HoldsUp slot (Device n what) old)
-  -- of what waits for nothing
-  pub busy :
-      ((state : SlotState) → waits_for_disk what n state.devices ≡ false) →
-      IsErrOf r refusal.Busy ↔ (¬ IsIdle slot old)
-  pub bad_device : IsErrOf r refusal.BadDevice ↔ (IsIdle slot old × TakesNothing slot n what old)
-
+-- when each refusal comes of what is done to a further device
 pub device_refuses : {A T : Type 0} (old new : SessionState) (slot n : ℕ) (what : DeviceEvent A)
     (response : Response A) (wanted : T → Response A) (r : Result T Refusal)
     → ((value : T) → refusal_of (wanted value) ≡ None) → Means wanted r response
     → length old.paused ≡ length old.slots → IsEventCall old slot (Device n what) response new
-    → DeviceRefuses old slot n what r
-device_refuses {A} {T} old new slot n what response wanted r pure means many call =
+    → RefusesAtDevice slot n what ((¬ IsIdle slot old) ⊎ HoldsUp slot (Device n what) old) old r
+device_refuses old new slot n what response wanted r pure means many call =
     let says = refuses old new slot (Device n what) response wanted r pure means many call in
     record {
       bad_slot = says.bad_slot;
-      waits = says.busy;
-      busy = λ free. only_paused {A = A} old slot (Device n what) refl free says.busy;
+      busy = says.busy;
       bad_device = refused_when wanted response r refusal.BadDevice pure means
           (device_bad old new slot n what many response call);
     }
 
--- and what is told of the call
+-- and of what waits for no disk, with what is told of the call
 pub device_told : {A T : Type 0} (old new : SessionState) (slot n : ℕ) (what : DeviceEvent A)
     (response : Response A) (wanted : T → Response A) (r : Result T Refusal)
     → ((value : T) → refusal_of (wanted value) ≡ None) → Means wanted r response
     → length old.paused ≡ length old.slots → IsEventCall old slot (Device n what) response new
-    → IsToldCall old slot (Device n what) (Means wanted r) new × DeviceRefuses old slot n what r
-device_told old new slot n what response wanted r pure means many call = (
-  record { response = response; call = call; told = means },
-  device_refuses old new slot n what response wanted r pure means many call,
-)
+    → ((state : SlotState) → waits_for_disk what n state.devices ≡ false)
+    → IsToldCall old slot (Device n what) (Means wanted r) new × RefusesAtDevice slot n what (¬ IsIdle slot old) old r
+device_told {A} old new slot n what response wanted r pure means many call free =
+    let says = device_refuses old new slot n what response wanted r pure means many call in (
+      record { response = response; call = call; told = means },
+      record {
+        bad_slot = says.bad_slot;
+        busy = only_paused {A = A} old slot (Device n what) refl free says.busy;
+        bad_device = says.bad_device;
+      },
+    )
 
 -- ---- what the host says of a disk
 
@@ -166,7 +161,7 @@ disk_refuses {A} old new slot (Further n) said response r means suits many call 
     let missing = missing_by A (slice_get old.slots slot) n said old.image in
     record {
       bad_slot = says.bad_slot;
-      busy = says.busy (λ state. refl);
+      busy = only_paused {A = A} old slot (Device n (DiskTold said)) refl (λ state. refl) says.busy;
       bad_device = (
         λ is. let bad = says.bad_device.0 is in (bad.0, missing.0 bad.1),
         λ none. says.bad_device.1 (none.0, missing.1 none.1),

@@ -12,6 +12,7 @@ use Rattle.board.specs.declared.event.Event.{Event}
 use Rattle.board.specs.declared.event.EventKind.{EventKind}
 use Rattle.board.specs.declared.event.EventKind.TheVariants.{Write, MemRead, Device}
 use Rattle.board.specs.declared.in_place.InPlace.{InPlace as InPlaceEvent}
+use Rattle.board.specs.declared.in_place.DeviceInPlace.TheVariants as device
 use Rattle.board.specs.declared.in_place.InPlace.TheVariants as slice
 use Rattle.board.specs.declared.pause.Pause.{Pause}
 use Rattle.board.specs.declared.pause.Turn.{Turn}
@@ -151,10 +152,10 @@ limits (turn.More pause) h is = h pause refl
 -- no answer to an event whose bytes are in a slice takes memory
 answers_in_place : (A : Type 0) (what : InPlaceEvent) → AnswersInPlace {A = A} (event_in what)
 answers_in_place A (slice.Input bytes) = tt
-answers_in_place A (slice.Write n offset width value) = tt
-answers_in_place A (slice.Supply n bytes) = tt
-answers_in_place A (slice.Receive n frame) = tt
-answers_in_place A (slice.DropSent n) = tt
+answers_in_place A (slice.Device n (device.Write offset width value)) = tt
+answers_in_place A (slice.Device n (device.Supply bytes)) = tt
+answers_in_place A (slice.Device n (device.Receive frame)) = tt
+answers_in_place A (slice.Device n device.DropSent) = tt
 
 pub record Turned {A : Type 0} (old : SessionState) (slot : ℕ) (kind : TurnKind A) (response : Response A)
     (new : SessionState) : Type 0 where

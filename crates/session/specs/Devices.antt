@@ -1,5 +1,5 @@
 -- A slot's further devices, as a session's calls see them.
-use Rattle.std.specs.Prelude.{◌≡◌, ℕ, Option, None, List, length, unwrap_or, IsSomeAnd}
+use Rattle.std.specs.Prelude.{◌≡◌, ◌↔◌, ◌≤◌, ℕ, Option, None, List, length, unwrap_or, IsErrOf, IsSomeAnd, Result}
 use Rattle.std.specs.List.{slice_get}
 use Rattle.std.specs.Option.{option_and_then, option_map, option_map_or}
 use Rattle.mmio_window.specs.Interrupts.{interrupt_bits}
@@ -9,8 +9,10 @@ use Rattle.device_list.specs.List.{disk_at, is_starved_at, sent_by}
 use Rattle.board.specs.declared.event.DeviceEvent.{DeviceEvent}
 use Rattle.board.specs.Devices.{reply_at}
 use Rattle.board.specs.Slot.{BoardSlot, state_of}
+use Rattle.session.specs.declared.refusal.Refusal.{Refusal}
+use Rattle.session.specs.declared.refusal.Refusal.TheVariants.{BadDevice, BadSlot, Busy}
 use Rattle.session.specs.declared.told.DeviceWaits.{DeviceWaits}
-use Rattle.session.specs.Session.{SessionState}
+use Rattle.session.specs.Session.{IsIdle, SessionState}
 
 -- what the driver of a slot's device of this number sent and its host takes now
 abbrev pub sent_at : ℕ → ℕ → List BoardSlot → Option (List ℕ)
@@ -41,3 +43,11 @@ device_waits_at slot n slots =
 abbrev pub TakesNothing : {A : Type 0} → ℕ → ℕ → DeviceEvent A → SessionState → Type 0
 TakesNothing slot n what session =
     IsSomeAnd (slice_get session.slots slot) (λ found. reply_at n what (state_of session.image found) ≡ None)
+
+-- When each refusal comes of this that is done to device n of a slot: there is no such slot, the call is busy, or the slot, in
+-- which no service is paused, takes no such thing.
+pub record RefusesAtDevice {A T : Type 0} (slot n : ℕ) (what : DeviceEvent A) (IsBusy : Type 0) (old : SessionState)
+    (result : Result T Refusal) : Type 0 where
+  pub bad_slot : IsErrOf result BadSlot ↔ (length old.slots ≤ slot)
+  pub busy : IsErrOf result Busy ↔ IsBusy
+  pub bad_device : IsErrOf result BadDevice ↔ (IsIdle slot old × TakesNothing slot n what old)

@@ -130,19 +130,7 @@ impl<A: Allocator + Copy> Guest<A> {
     {
         match what {
             InPlace::Input(bytes) => Ok(self.slot.input(bytes, budget)),
-            InPlace::Write {
-                device,
-                offset,
-                width,
-                value,
-            } => self.slot.write_device(device, offset, width, value, budget),
-            InPlace::Supply { device, bytes } => {
-                Ok(self.slot.supply_device(device, bytes, budget))
-            }
-            InPlace::DropSent { device } => Ok(self.slot.drop_sent(device, budget)),
-            InPlace::Receive { device, frame } => {
-                Ok(self.slot.receive_frame(device, frame, budget))
-            }
+            InPlace::Device { device, what } => self.slot.begin_at_device(device, what, budget),
         }
     }
 

@@ -11,14 +11,16 @@ ghost use Rattle.device_list.specs.Device.{TakesSent, fresh_device};
 ghost use Rattle.device_list.specs.List.{At, DevicesServeTo, IsRefusedFor, are_at_work, disk_at, is_starved_at, refusal_of, sent_by};
 ghost use Rattle.board.specs.declared.event.DeviceEvent.{DeviceEvent};
 ghost use Rattle.board.specs.declared.event.EventKind.{EventKind};
-ghost use Rattle.board.specs.Devices.{IsAtOnce, further_service};
 ghost use Rattle.board.specs.declared.pause.Service.{Service};
+ghost use Rattle.board.specs.Devices.{IsAtOnce, further_service};
 ghost use Rattle.board.specs.ImageDisks.{image_served_in};
-ghost use Rattle.board.specs.Quiet.{AsksImageDisk, BeginsAtDevice, DoesToDevice, ServesFurther};
+ghost use Rattle.board.specs.InPlace.{done_in};
+ghost use Rattle.board.specs.Quiet.{AnswersAtDevice, AsksAtDevice, AsksImageDisk, BeginsAsked, BeginsAtDevice, DoesToDevice, ServesFurther};
 
 use crate::bytes::Bytes;
 use crate::check::is_within;
 use crate::event::DeviceEvent;
+use crate::in_place::DeviceInPlace;
 use crate::pause::{Pause, Service, Turn};
 use crate::reply::Reply;
 use crate::slot::Slot;
@@ -32,6 +34,29 @@ use std::alloc::{AllocError, Allocator};
 // The queue that waits for what a device is supplied with: the request queue of an entropy device, and a console's receive
 // queue.
 const SUPPLIED_QUEUE: u16 = 0;
+
+// A queue that a device is to serve, and how many bytes it took, if it was handed some.
+#[derive(Clone, Copy)]
+struct Asked {
+    queue: u16,
+    taken: Option<usize>,
+}
+
+impl Asked {
+    // The service of this device.
+    #[inline(always)]
+    fn of(self, device: u8) -> Pause
+        ensures { result ≡ further_service device self.queue self.taken }
+    {
+        Pause {
+            service: Service::Further {
+                device,
+                queue: self.queue,
+            },
+            taken: self.taken,
+        }
+    }
+}
 
 impl<A: Allocator + Copy> Slot<A> {
     /// Does this to the further device of this number. A service that it asks for may pause where the budget is spent; one over the
@@ -47,21 +72,77 @@ impl<A: Allocator + Copy> Slot<A> {
         ensures begins { IfOk result (BeginsAtDevice device what.now budget self.old self.new) }
         ensures asks { IfErr result (AsksImageDisk (EventKind.Device device what.now) self.old self.new) }
     {
+        match what.in_place() {
+            Some(what) => self.begin_at_device(device, what, budget),
+            None => Ok(Turn::Answered(self.device_at_once(alloc, device, what))),
+        }
+    }
+
+    /// Does this to the further device of this number, as `device_event` does.
+    #[inline(always)]
+    pub(crate) fn begin_at_device(
+        &mut self,
+        device: u8,
+        what: DeviceInPlace<'_>,
+        budget: Budget,
+    ) -> Result<Turn<A>, Pause>
+        ensures begins { IfOk result (BeginsAtDevice device (done_in what.entry) budget self.old self.new) }
+        ensures asks { IfErr result (AsksImageDisk {A = A} (EventKind.Device device (done_in what.entry)) self.old self.new) }
+    {
         match what {
-            DeviceEvent::Write {
+            DeviceInPlace::Write {
                 offset,
                 width,
                 value,
-            } => self.write_device(device, *offset, *width, *value, budget),
-            DeviceEvent::Supply { bytes } => {
-                Ok(self.supply_device(device, bytes.as_slice(), budget))
+            } => {
+                let asked = self.write_device(device, offset, width, value);
+                self.begin_asked(device, asked, budget)
             }
-            DeviceEvent::Receive { frame } => {
-                Ok(self.receive_frame(device, frame.as_slice(), budget))
+            DeviceInPlace::Supply(bytes) => {
+                let asked = self.supply_device(device, bytes);
+                self.begin_asked(device, asked, budget)
             }
-            DeviceEvent::DropSent => Ok(self.drop_sent(device, budget)),
-            _ => Ok(Turn::Answered(self.device_at_once(alloc, device, what))),
+            DeviceInPlace::Receive(frame) => {
+                let asked = self.receive_frame(device, frame);
+                self.begin_asked(device, asked, budget)
+            }
+            DeviceInPlace::DropSent => {
+                let asked = self.drop_sent(device);
+                self.begin_asked(device, asked, budget)
+            }
         }
+    }
+
+    // Begins the service that is asked for, or answers where none is. One over the image is to begin.
+    #[inline(always)]
+    fn begin_asked(
+        &mut self,
+        device: u8,
+        asked: Result<Asked, Reply<A>>,
+        budget: Budget,
+    ) -> Result<Turn<A>, Pause>
+        ensures { BeginsAsked device asked budget self.old self.new result }
+    {
+        let asked = match asked {
+            Ok(asked) => asked,
+            Err(reply) => return Ok(Turn::Answered(reply)),
+        };
+        let pause = asked.of(device);
+        if self.is_of_image(pause.service) {
+            return Err(pause);
+        }
+        Ok(self.begin_further(device, asked, budget))
+    }
+
+    // Serves the first piece of a device's queue. At the end the event is answered how many bytes its device took, if it was
+    // handed some.
+    #[inline(always)]
+    fn begin_further(&mut self, device: u8, asked: Asked, budget: Budget) -> Turn<A>
+        requires no_image { image_served_in (Service.Further device asked.queue) self.old ≡ None }
+        ensures { ServesFurther (further_service device asked.queue asked.taken) Stage.First budget self.old self.new result }
+    {
+        let progress = self.serve_further(device, asked.queue, Stage::First, budget);
+        asked.of(device).turn(progress)
     }
 
     // Does what asks for no service that may pause.
@@ -107,19 +188,18 @@ impl<A: Allocator + Copy> Slot<A> {
         }
     }
 
-    /// Writes a device's window, and has the device do its part, within the budget (4.2.2). A service over the image is to begin.
+    // Writes a device's window (4.2.2). A queue that this notifies is to be served.
     #[inline(always)]
-    pub(crate) fn write_device(
+    fn write_device(
         &mut self,
         device: u8,
         offset: u16,
         width: u8,
         value: u32,
-        budget: Budget,
-    ) -> Result<Turn<A>, Pause>
-        ensures begins { IfOk result (BeginsAtDevice device (DeviceEvent.Write offset width value) budget self.old self.new) }
-        ensures asks { IfErr result (AsksImageDisk {A = A} (EventKind.Device device (DeviceEvent.Write offset width value))
-            self.old self.new) }
+    ) -> Result<Asked, Reply<A>>
+        ensures asks { IfOk result (λ asked. AsksAtDevice {A = A} device (DeviceEvent.Write offset width value) self.old self.new
+            (further_service device asked.queue asked.taken)) }
+        ensures answers { IfErr result (AnswersAtDevice device (DeviceEvent.Write offset width value) self.old self.new) }
     {
         match self
             .devices
@@ -127,16 +207,11 @@ impl<A: Allocator + Copy> Slot<A> {
         {
             Ok(Some(queue)) => {
                 self.counters.wrote(Action::Notify(queue));
-                let pause = Pause::of(Service::Further { device, queue });
-                if self.is_of_image(pause.service) {
-                    Err(pause)
-                } else {
-                    Ok(self.begin_further(device, queue, None, budget))
-                }
+                Ok(Asked { queue, taken: None })
             }
-            Ok(None) => Ok(Turn::Answered(Reply::Done)),
-            Err(WriteRefusal::Busy) => Ok(Turn::Answered(Reply::Busy)),
-            Err(WriteRefusal::NoDevice) => Ok(Turn::Answered(Reply::BadDevice)),
+            Ok(None) => Err(Reply::Done),
+            Err(WriteRefusal::Busy) => Err(Reply::Busy),
+            Err(WriteRefusal::NoDevice) => Err(Reply::BadDevice),
         }
     }
 
@@ -156,25 +231,6 @@ impl<A: Allocator + Copy> Slot<A> {
             Some(disk) => !self.is_hosted() && is_within(disk.extent, self.spare),
             None => false,
         }
-    }
-
-    // Serves the first piece of a device's queue. At the end the event is answered how many bytes its device took, if it handed
-    // in some.
-    #[inline(always)]
-    fn begin_further(
-        &mut self,
-        device: u8,
-        queue: u16,
-        taken: Option<usize>,
-        budget: Budget,
-    ) -> Turn<A>
-        requires no_image { image_served_in (Service.Further device queue) self.old ≡ None }
-        ensures { ServesFurther (further_service device queue taken) Stage.First budget self.old self.new result }
-    {
-        let service = Service::Further { device, queue };
-        let pause = Pause { service, taken };
-        let progress = self.serve_further(device, queue, Stage::First, budget);
-        pause.turn(progress)
     }
 
     /// Serves a piece of a further device's queue.
@@ -211,27 +267,38 @@ impl<A: Allocator + Copy> Slot<A> {
         }
     }
 
-    /// Supplies a device with bytes, and has it serve the queue that waits for them, within the budget.
+    // Supplies a device with bytes. The queue that waits for them is to be served.
     #[inline(always)]
-    pub(crate) fn supply_device(&mut self, device: u8, bytes: &[u8], budget: Budget) -> Turn<A>
-        ensures { BeginsAtDevice device (DeviceEvent.Supply bytes.now) budget self.old self.new result }
+    fn supply_device(&mut self, device: u8, bytes: &[u8]) -> Result<Asked, Reply<A>>
+        ensures asks { IfOk result (λ asked. AsksAtDevice {A = A} device (DeviceEvent.Supply bytes.now) self.old self.new
+            (further_service device asked.queue asked.taken)) }
+        ensures answers { IfErr result (AnswersAtDevice device (DeviceEvent.Supply bytes.now) self.old self.new) }
     {
-        match self.devices.supply(device, bytes) {
-            Some(taken) => self.begin_further(device, SUPPLIED_QUEUE, Some(taken), budget),
-            None => Turn::Answered(Reply::BadDevice),
-        }
+        let Some(taken) = self.devices.supply(device, bytes) else {
+            return Err(Reply::BadDevice);
+        };
+        Ok(Asked {
+            queue: SUPPLIED_QUEUE,
+            taken: Some(taken),
+        })
     }
 
-    /// Hands a network card a frame, and has it serve its receive queue, within the budget.
+    // Hands a network card a frame. Its receive queue is to be served.
     #[inline(always)]
-    pub(crate) fn receive_frame(&mut self, device: u8, frame: &[u8], budget: Budget) -> Turn<A>
-        ensures { BeginsAtDevice device (DeviceEvent.Receive frame.now) budget self.old self.new result }
+    fn receive_frame(&mut self, device: u8, frame: &[u8]) -> Result<Asked, Reply<A>>
+        ensures asks { IfOk result (λ asked. AsksAtDevice {A = A} device (DeviceEvent.Receive frame.now) self.old self.new
+            (further_service device asked.queue asked.taken)) }
+        ensures answers { IfErr result (AnswersAtDevice device (DeviceEvent.Receive frame.now) self.old self.new) }
     {
         match self.devices.receive(device, frame) {
-            Ok(()) => self.begin_further(device, RECEIVEQ, Some(frame.len()), budget),
-            Err(ReceiveRefusal::Frame(FrameRefusal::Full)) => Turn::Answered(Reply::Took(0)),
-            Err(_) => Turn::Answered(Reply::BadDevice),
+            Ok(()) => (),
+            Err(ReceiveRefusal::Frame(FrameRefusal::Full)) => return Err(Reply::Took(0)),
+            Err(_) => return Err(Reply::BadDevice),
         }
+        Ok(Asked {
+            queue: RECEIVEQ,
+            taken: Some(frame.len()),
+        })
     }
 
     // Takes what a device's driver sent.
@@ -248,16 +315,20 @@ impl<A: Allocator + Copy> Slot<A> {
         Reply::Bytes(bytes)
     }
 
-    /// Drops what a device's driver sent, and has it serve its transmit queue, within the budget.
+    // Drops what a device's driver sent. Its transmit queue is to be served, since there is room.
     #[inline(always)]
-    pub(crate) fn drop_sent(&mut self, device: u8, budget: Budget) -> Turn<A>
-        ensures { BeginsAtDevice device DeviceEvent.DropSent budget self.old self.new result }
+    fn drop_sent(&mut self, device: u8) -> Result<Asked, Reply<A>>
+        ensures asks { IfOk result (λ asked. AsksAtDevice {A = A} device DeviceEvent.DropSent self.old self.new
+            (further_service device asked.queue asked.taken)) }
+        ensures answers { IfErr result (AnswersAtDevice device DeviceEvent.DropSent self.old self.new) }
     {
-        let Some(count) = self.sent_len(device) else {
-            return Turn::Answered(self.nothing_dropped(device));
+        let Some(count) = self.devices.take_sent(device) else {
+            return Err(self.nothing_dropped(device));
         };
-        let _ = self.devices.take_sent(device);
-        self.begin_further(device, TRANSMITQ, Some(count), budget)
+        Ok(Asked {
+            queue: TRANSMITQ,
+            taken: Some(count),
+        })
     }
 
     // What the host is answered that drops what was sent where nothing waits.
@@ -272,14 +343,6 @@ impl<A: Allocator + Copy> Slot<A> {
         }
     }
 
-    // How many bytes a device's driver sent that its host takes now.
-    fn sent_len(&self, device: u8) -> Option<usize>
-        ensures { result ≡ option_map (λ sent. length sent) (sent_by device self.now.devices) }
-    {
-        let (front, back) = self.devices.sent(device)?;
-        Some(front.len() + back.len())
-    }
-
     // Takes away what waits of a device's driver, and has it serve its transmit queue to the end. False where nothing waits.
     fn drop_waiting(&mut self, device: u8) -> bool
         ensures found { result ≡ is_some (sent_by device self.old.devices) }
@@ -288,9 +351,9 @@ impl<A: Allocator + Copy> Slot<A> {
         ensures rest { self.new ≡ record self.old { memory = self.new.memory; devices = self.new.devices } }
         ensures range { SameRange self.old.memory self.new.memory }
     {
-        if !self.devices.take_sent(device) {
+        let Some(_) = self.devices.take_sent(device) else {
             return false;
-        }
+        };
         let _ = self.serve_further(device, TRANSMITQ, Stage::First, Budget::UNLIMITED);
         true
     }

@@ -1,6 +1,6 @@
 //! What the host of a device hands in and takes.
 
-ghost use Rattle.std.specs.Prelude.{◌≡◌, ◌≢◌, ◌++◌, true, Some, None, IfErr, OnOk, OnErr, is_some};
+ghost use Rattle.std.specs.Prelude.{◌≡◌, ◌≢◌, ◌++◌, true, Some, None, IfErr, OnOk, OnErr, IsSome, is_some, length};
 ghost use Rattle.std.specs.Bool.{OnTrue, OnFalse};
 ghost use Rattle.std.specs.Option.{option_map};
 ghost use Rattle.guest_memory.specs.Memory.{Memory, SameRange};
@@ -70,17 +70,18 @@ impl<A: Allocator> VirtioDevice<A> {
         }
     }
 
-    /// Takes that away. The transmit queue is to be served next. False where nothing waits: nothing has changed then.
-    pub(crate) fn take_sent(&mut self) -> bool
-        ensures found { result ≡ is_some (sent_of self.old.model) }
-        ensures taken { OnTrue result (self.new ≡ with_model without_sent self.old) }
-        ensures kept { OnFalse result (self.new ≡ self.old) }
+    /// Takes that away, and answers how many bytes it has. The transmit queue is to be served next. There is no answer where nothing
+    /// waits: nothing has changed then.
+    pub(crate) fn take_sent(&mut self) -> Option<usize>
+        ensures count { result ≡ option_map (λ sent. length sent) (sent_of self.old.model) }
+        ensures taken { IsSome result → self.new ≡ with_model without_sent self.old }
+        ensures kept { result ≡ None → self.new ≡ self.old }
         ensures sound { (m : Memory) → IsSoundDevice m self.old → IsSoundDevice m self.new }
     {
         match &mut self.model {
             DeviceModel::Network(card) => card.take_sent(),
             DeviceModel::Console(terminal) => terminal.take_sent(),
-            _ => false,
+            _ => None,
         }
     }
 

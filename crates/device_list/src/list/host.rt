@@ -1,6 +1,6 @@
 //! What the host of a list's devices hands in and takes.
 
-ghost use Rattle.std.specs.Prelude.{◌≡◌, ◌≢◌, ◌++◌, true, Some, None, IsSome, IfErr, OnOk, OnErr, is_some};
+ghost use Rattle.std.specs.Prelude.{◌≡◌, ◌≢◌, ◌++◌, true, Some, None, IsSome, IfErr, OnOk, OnErr, is_some, length};
 ghost use Rattle.std.specs.Bool.{OnTrue, OnFalse};
 ghost use Rattle.std.specs.List.{slice_get};
 ghost use Rattle.std.specs.Option.{option_and_then, option_map};
@@ -68,17 +68,15 @@ impl<A: Allocator> DeviceList<A> {
         found.sent()
     }
 
-    /// Takes that away. The transmit queue is to be served next, since there is room again. False where nothing waits: nothing has
-    /// changed then.
-    pub fn take_sent(&mut self, device: u8) -> bool
-        ensures found { result ≡ is_some (sent_by device self.old) }
-        ensures taken { OnTrue result (self.new ≡ changed_at (with_model without_sent) device self.old) }
-        ensures kept { OnFalse result (self.new ≡ self.old) }
+    /// Takes that away, and answers how many bytes it has. The transmit queue is to be served next, since there is room again. There
+    /// is no answer where nothing waits: nothing has changed then.
+    pub fn take_sent(&mut self, device: u8) -> Option<usize>
+        ensures count { result ≡ option_map (λ sent. length sent) (sent_by device self.old) }
+        ensures taken { IsSome result → self.new ≡ changed_at (with_model without_sent) device self.old }
+        ensures kept { result ≡ None → self.new ≡ self.old }
         ensures sound { (m : Memory) → AreSoundDevices m self.old → AreSoundDevices m self.new }
     {
-        let Some(found) = self.devices.get_mut(usize::from(device)) else {
-            return false;
-        };
+        let found = self.devices.get_mut(usize::from(device))?;
         found.take_sent()
     }
 

@@ -1,15 +1,16 @@
 //! What is done to a guest's further devices: its driver's registers, and what its host hands in and takes. Nothing here
 //! takes memory.
 
-ghost use Rattle.std.specs.Prelude.{◌≡◌, ◌≢◌, ◌↔◌, ◌≤◌, ◌++◌, length, Some, IfErr, IfOk, IsErrOf, ◌⊎◌};
+ghost use Rattle.std.specs.Prelude.{◌≡◌, ◌≢◌, ◌↔◌, ◌++◌, length, Some, IfErr, IfOk, ◌⊎◌};
 ghost use Rattle.std.specs.Option.{option_map};
 ghost use Rattle.board.specs.declared.event.DeviceEvent.{DeviceEvent};
 ghost use Rattle.board.specs.declared.event.EventKind.{EventKind};
+ghost use Rattle.board.specs.InPlace.{done_in};
 ghost use Rattle.session.specs.declared.progress.Progress.{Progress};
 ghost use Rattle.session.specs.declared.refusal.Refusal.{Refusal};
 ghost use Rattle.session.specs.declared.response.Response.{Response};
 ghost use Rattle.session.specs.Answering.{IsReading, Means, SuitsCall, done_response, handed_response, served_response, value_response};
-ghost use Rattle.session.specs.Devices.{TakesNothing, device_waits_at, sent_at, sent_count};
+ghost use Rattle.session.specs.Devices.{RefusesAtDevice, device_waits_at, sent_at, sent_count};
 ghost use Rattle.board.specs.declared.slot_disk.SlotDisk.{SlotDisk};
 ghost use Rattle.session.specs.Operations.{HasAsked, HoldsUp};
 ghost use Rattle.session.specs.Pausing.{IsEventCall, IsToldCall, taken_at};
@@ -22,7 +23,7 @@ use crate::response::{Response, Turned};
 use crate::session::Session;
 use crate::told::{DeviceWaits, done};
 use crate::turn_kind::TurnKind;
-use board::{DeviceEvent, EventKind, InPlace, Reply, SlotDisk};
+use board::{DeviceEvent, DeviceInPlace, EventKind, InPlace, Reply, SlotDisk};
 use std::alloc::Allocator;
 
 impl<A: Allocator + Copy> Session<A> {
@@ -37,10 +38,7 @@ impl<A: Allocator + Copy> Session<A> {
     ) -> Result<u32, Refusal>
         ensures call { IsToldCall {A = A} self.old slot (EventKind.Device device (DeviceEvent.Read offset width))
             (Means value_response result) self.new }
-        ensures bad_slot { IsErrOf result Refusal.BadSlot ↔ (length self.old.slots ≤ slot) }
-        ensures busy { IsErrOf result Refusal.Busy ↔ ¬ IsIdle slot self.old }
-        ensures bad_device { IsErrOf result Refusal.BadDevice ↔
-            (IsIdle slot self.old × TakesNothing {A = A} slot device (DeviceEvent.Read offset width) self.old) }
+        ensures refuses { RefusesAtDevice {A = A} slot device (DeviceEvent.Read offset width) (¬ IsIdle slot self.old) self.old result }
     {
         let read = DeviceEvent::Read { offset, width };
         gave(self.device_event(slot, device, read))
@@ -62,21 +60,17 @@ impl<A: Allocator + Copy> Session<A> {
             (Means served_response result) self.new }
         ensures asks { IfOk result (λ progress.
             (progress ≡ Progress.Asks) ↔ HasAsked slot (SlotDisk.Further device) self.old self.new) }
-        ensures bad_slot { IsErrOf result Refusal.BadSlot ↔ (length self.old.slots ≤ slot) }
-        ensures busy { IsErrOf result Refusal.Busy ↔
+        ensures refuses { RefusesAtDevice {A = A} slot device (DeviceEvent.Write offset width value)
             ((¬ IsIdle slot self.old)
-            ⊎ HoldsUp {A = A} slot (EventKind.Device device (DeviceEvent.Write offset width value)) self.old) }
-        ensures bad_device { IsErrOf result Refusal.BadDevice ↔
-            (IsIdle slot self.old × TakesNothing {A = A} slot device (DeviceEvent.Write offset width value) self.old) }
+            ⊎ HoldsUp {A = A} slot (EventKind.Device device (DeviceEvent.Write offset width value)) self.old) self.old result }
     {
-        let write = InPlace::Write {
-            device,
+        let write = DeviceInPlace::Write {
             offset,
             width,
             value,
         };
         let before = self.in_flight(slot, SlotDisk::Further(device));
-        let Turned { response, waits: _ } = self.begin_in_place(slot, write);
+        let response = self.begin_at_device(slot, device, write);
         let after = self.in_flight(slot, SlotDisk::Further(device));
         let asks = has_asked(before, after);
         served(response, asks)
@@ -87,10 +81,7 @@ impl<A: Allocator + Copy> Session<A> {
     pub fn set_link(&mut self, slot: u8, device: u8, up: bool) -> Result<(), Refusal>
         ensures call { IsToldCall {A = A} self.old slot (EventKind.Device device (DeviceEvent.SetLink up))
             (Means done_response result) self.new }
-        ensures bad_slot { IsErrOf result Refusal.BadSlot ↔ (length self.old.slots ≤ slot) }
-        ensures busy { IsErrOf result Refusal.Busy ↔ ¬ IsIdle slot self.old }
-        ensures bad_device { IsErrOf result Refusal.BadDevice ↔
-            (IsIdle slot self.old × TakesNothing {A = A} slot device (DeviceEvent.SetLink up) self.old) }
+        ensures refuses { RefusesAtDevice {A = A} slot device (DeviceEvent.SetLink up) (¬ IsIdle slot self.old) self.old result }
     {
         done(self.device_event(slot, device, DeviceEvent::SetLink { up }))
     }
@@ -106,10 +97,7 @@ impl<A: Allocator + Copy> Session<A> {
     ) -> Result<(), Refusal>
         ensures call { IsToldCall {A = A} self.old slot (EventKind.Device device (DeviceEvent.Resize cols rows))
             (Means done_response result) self.new }
-        ensures bad_slot { IsErrOf result Refusal.BadSlot ↔ (length self.old.slots ≤ slot) }
-        ensures busy { IsErrOf result Refusal.Busy ↔ ¬ IsIdle slot self.old }
-        ensures bad_device { IsErrOf result Refusal.BadDevice ↔
-            (IsIdle slot self.old × TakesNothing {A = A} slot device (DeviceEvent.Resize cols rows) self.old) }
+        ensures refuses { RefusesAtDevice {A = A} slot device (DeviceEvent.Resize cols rows) (¬ IsIdle slot self.old) self.old result }
     {
         let resize = DeviceEvent::Resize { cols, rows };
         done(self.device_event(slot, device, resize))
@@ -127,6 +115,20 @@ impl<A: Allocator + Copy> Session<A> {
         response
     }
 
+    // Begins what is done to a further device and may ask for a service that pauses.
+    #[inline(always)]
+    fn begin_at_device(&mut self, slot: u8, device: u8, what: DeviceInPlace<'_>) -> Response<A>
+        ensures call { IsEventCall self.old slot (EventKind.Device device (done_in what.entry)) result self.new }
+        ensures suits { SuitsCall {A = A} (EventKind.Device device (done_in what.entry)) result }
+        ensures as_many { length self.old.paused ≡ length self.old.slots }
+    {
+        let Turned { response, waits: _ } = self.begin_in_place(
+            slot,
+            InPlace::Device { device, what },
+        );
+        response
+    }
+
     /// Supplies an entropy device with random bytes (5.4), or types to a console (5.3), and answers how many were taken: the
     /// first ones. The chains on offer are filled then. Where more is to come, `go_on` goes on with that. It is refused for a bad
     /// slot, for a device that takes none, and while a service of the slot is paused.
@@ -136,15 +138,9 @@ impl<A: Allocator + Copy> Session<A> {
         ensures taken { IfOk result (λ handed. handed.progress ≡ Progress.More →
             taken_at slot self.new ≡ Some handed.taken) }
         ensures never_asks { IfOk result (λ handed. handed.progress ≢ Progress.Asks) }
-        ensures bad_slot { IsErrOf result Refusal.BadSlot ↔ (length self.old.slots ≤ slot) }
-        ensures busy { IsErrOf result Refusal.Busy ↔ ¬ IsIdle slot self.old }
-        ensures bad_device { IsErrOf result Refusal.BadDevice ↔
-            (IsIdle slot self.old × TakesNothing {A = A} slot device (DeviceEvent.Supply bytes.now) self.old) }
+        ensures refuses { RefusesAtDevice {A = A} slot device (DeviceEvent.Supply bytes.now) (¬ IsIdle slot self.old) self.old result }
     {
-        let Turned { response, waits: _ } = self.begin_in_place(
-            slot,
-            InPlace::Supply { device, bytes },
-        );
+        let response = self.begin_at_device(slot, device, DeviceInPlace::Supply(bytes));
         let taken = self.taken(slot);
         handing(response, taken)
     }
@@ -160,15 +156,9 @@ impl<A: Allocator + Copy> Session<A> {
         ensures taken { IfOk result (λ handed. handed.progress ≡ Progress.More →
             taken_at slot self.new ≡ Some handed.taken) }
         ensures never_asks { IfOk result (λ handed. handed.progress ≢ Progress.Asks) }
-        ensures bad_slot { IsErrOf result Refusal.BadSlot ↔ (length self.old.slots ≤ slot) }
-        ensures busy { IsErrOf result Refusal.Busy ↔ ¬ IsIdle slot self.old }
-        ensures bad_device { IsErrOf result Refusal.BadDevice ↔
-            (IsIdle slot self.old × TakesNothing {A = A} slot device (DeviceEvent.Receive frame.now) self.old) }
+        ensures refuses { RefusesAtDevice {A = A} slot device (DeviceEvent.Receive frame.now) (¬ IsIdle slot self.old) self.old result }
     {
-        let Turned { response, waits: _ } = self.begin_in_place(
-            slot,
-            InPlace::Receive { device, frame },
-        );
+        let response = self.begin_at_device(slot, device, DeviceInPlace::Receive(frame));
         let taken = self.taken(slot);
         handing(response, taken)
     }
@@ -185,12 +175,9 @@ impl<A: Allocator + Copy> Session<A> {
         ensures taken { IfOk result (λ handed. handed.progress ≡ Progress.More →
             taken_at slot self.new ≡ Some handed.taken) }
         ensures never_asks { IfOk result (λ handed. handed.progress ≢ Progress.Asks) }
-        ensures bad_slot { IsErrOf result Refusal.BadSlot ↔ (length self.old.slots ≤ slot) }
-        ensures busy { IsErrOf result Refusal.Busy ↔ ¬ IsIdle slot self.old }
-        ensures bad_device { IsErrOf result Refusal.BadDevice ↔
-            (IsIdle slot self.old × TakesNothing {A = A} slot device DeviceEvent.DropSent self.old) }
+        ensures refuses { RefusesAtDevice {A = A} slot device DeviceEvent.DropSent (¬ IsIdle slot self.old) self.old result }
     {
-        let Turned { response, waits: _ } = self.begin_in_place(slot, InPlace::DropSent { device });
+        let response = self.begin_at_device(slot, device, DeviceInPlace::DropSent);
         let taken = self.taken(slot);
         handing(response, taken)
     }

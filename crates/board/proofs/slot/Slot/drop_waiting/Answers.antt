@@ -1,4 +1,4 @@
-use Rattle.std.proofs.Common.{sym}
+use Rattle.std.proofs.Common.{refl}
 use Rattle.board.proofs.Belonging.{devices_changed}
 use Rattle.board.proofs.Beside.{same_range}
 use Rattle.board.proofs.FurtherBegins.{taken_at}
@@ -12,8 +12,8 @@ invariant_of-self-2 g c =
 
 pub returns-clause-takes : goal.returns-clause-takes
 returns-clause-takes g c =
-    let took = c.if-not-take_sent.ensures in
+    let took = c.in-Some.ensures in
     rw (← c.self.view_is)
     (taken_at c.args.device c.self.inside.memory c.serve_further.new.self.memory c.self.inside.devices
-    c.take_sent.new.self c.serve_further.new.self.devices c.serve_further.result (sym took.found) took.taken
+    c.take_sent.new.self c.serve_further.new.self.devices c.serve_further.result _ took.count (took.taken refl)
     c.serve_further.ensures.served)

@@ -15,10 +15,5 @@ returns g c =
     let did = c.device_event in
     let says =
     device_told c.args.self.now did.new.self c.args.slot c.args.device (Resize c.args.cols c.args.rows) did.result done_response
-    c.done.result (λ value. refl) c.done.ensures did.ensures.as_many did.ensures.call in
-    record {
-      call = says.0;
-      bad_slot = says.1.bad_slot;
-      busy = says.1.busy (λ state. refl);
-      bad_device = says.1.bad_device;
-    }
+    c.done.result (λ value. refl) c.done.ensures did.ensures.as_many did.ensures.call (λ state. refl) in
+    record { call = says.0; refuses = says.1 }
