@@ -73,22 +73,30 @@ static uint8_t disk_of(uint8_t window)
 /* Whether the host serves it. */
 static bool is_hosted(uint8_t disk)
 {
-    return disk == BOARD_OWN ? settings.hosted : settings.disks != NULL;
+    return disk == BOARD_OWN ? settings.hosted : settings.disks != NULL && !settings.spare;
+}
+
+/* Whether a window is that of a disk over the image. */
+static bool is_over_image(uint8_t window)
+{
+    return window == KALYUBOS_BLOCK ? !settings.hosted : window >= BOARD_DEVICES && settings.spare;
+}
+
+const char *board_file(const char *folder, const uint8_t address[BOARD_ADDRESS], uint8_t disk)
+{
+    static char path[PATH];
+    const char *name = disk == BOARD_FIXED ? "fixed" : "data";
+    if (address[BOARD_ADDRESS - 2] != 0)
+        snprintf(path, sizeof path, "%s/%s-noise", folder, name);
+    else
+        snprintf(path, sizeof path, "%s/%s-%c", folder, name, address[BOARD_ADDRESS - 1]);
+    return path;
 }
 
 /* The file of a disk; that of a further one ends as the own disk's name, which the card's address has too. */
 static const char *path_of(uint8_t slot, uint8_t disk)
 {
-    static char path[PATH];
-    const char *name = disk == BOARD_FIXED ? "fixed" : "data";
-    if (disk == BOARD_OWN)
-        return settings.names[slot];
-    const uint8_t *address = settings.addresses[slot];
-    if (address[BOARD_ADDRESS - 2] != 0)
-        snprintf(path, sizeof path, "%s/%s-noise", settings.disks, name);
-    else
-        snprintf(path, sizeof path, "%s/%s-%c", settings.disks, name, address[BOARD_ADDRESS - 1]);
-    return path;
+    return disk == BOARD_OWN ? settings.names[slot] : board_file(settings.disks, settings.addresses[slot], disk);
 }
 
 _Noreturn static void fail_of(const char *path, const char *wrong)
@@ -113,6 +121,15 @@ static uint64_t sectors_of(uint8_t slot, uint8_t disk)
     if (stat(path_of(slot, disk), &file) != 0)
         fail_of(path_of(slot, disk), "isn't there");
     return file.st_size / SECTOR;
+}
+
+/* How many spare sectors stand before those of a slot's further disk, or behind the last how many there are. */
+static uint64_t spare_before(uint8_t slot, uint8_t disk)
+{
+    uint64_t sectors = 0;
+    for (uint8_t other = BOARD_FIXED; settings.spare && other < disk; other++)
+        sectors += sectors_of(slot, other);
+    return sectors;
 }
 
 static void open_disk(uint8_t slot, uint8_t disk)
@@ -157,7 +174,8 @@ static void add_disks(struct kalyubos_slot *of, uint8_t slot)
 {
     for (uint8_t disk = BOARD_FIXED; disk < BOARD_DISKS; disk++) {
         struct kalyubos_device *device = &of->devices[window_of(disk) - KALYUBOS_DEVICE];
-        *device = (struct kalyubos_device){ .kind = KALYUBOS_DISK, .sectors = sectors_of(slot, disk),
+        *device = (struct kalyubos_device){ .kind = settings.spare ? KALYUBOS_IMAGE_DISK : KALYUBOS_DISK,
+                                            .sectors = sectors_of(slot, disk), .start = spare_before(slot, disk),
                                             .read_only = disk == BOARD_FIXED, .depth = settings.depth };
         name_disk(device->identity, path_of(slot, disk));
     }
@@ -170,15 +188,15 @@ void board_open(const struct board_settings *wanted)
     settings = *wanted;
     for (size_t i = 0; i < settings.guests; i++) {
         slots[i] = (struct kalyubos_slot){ .size = sizeof *slots, .start = start, .count = settings.sectors[i],
-                                           .cols = COLUMNS, .rows = ROWS, .outlet = settings.outlet,
-                                           .hosted = settings.hosted, .depth = settings.depth };
+                                           .spare = spare_before(i, BOARD_DISKS), .cols = COLUMNS, .rows = ROWS,
+                                           .outlet = settings.outlet, .hosted = settings.hosted, .depth = settings.depth };
         if (settings.addresses != NULL)
             add_devices(&slots[i], settings.addresses[i]);
         if (settings.disks != NULL)
             add_disks(&slots[i], i);
         memcpy(slots[i].regions, settings.large ? LARGE : SMALL, sizeof slots[i].regions);
         name_disk(slots[i].identity, settings.names[i]);
-        start += settings.sectors[i];
+        start += slots[i].count + slots[i].spare;
     }
     if (settings.record != NULL && !record_to(settings.record))
         must(KALYUBOS_NO_ROOM, settings.record);
@@ -308,7 +326,7 @@ static uint32_t settle(uint8_t slot, uint32_t answer)
         return answer;
     watch_after(&board, call, record_line());
     after(slot);
-    if (call->window == KALYUBOS_BLOCK && call->offset == QUEUE_NOTIFY)
+    if (is_over_image(call->window) && call->offset == QUEUE_NOTIFY)
         disk_sync();
     if (answer == KALYUBOS_IO)
         take_off(slot, disk_of(call->window));
@@ -501,7 +519,7 @@ void board_disk(uint8_t slot, uint8_t *into, size_t len)
 {
     uint64_t start = 0;
     for (size_t i = 0; i < slot; i++)
-        start += settings.sectors[i] * SECTOR;
+        start += (settings.sectors[i] + spare_before(i, BOARD_DISKS)) * SECTOR;
     if (!settings.hosted)
         must(kalyubos_read_image(&board, start, into, len), "read_image");
     else if (pread(disks[slot][BOARD_OWN].file, into, len, 0) != (ssize_t)len)

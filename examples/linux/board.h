@@ -18,7 +18,7 @@ static const uint64_t MEMORY_BASE = 0x80000000;
 enum { BOARD_ENTROPY = KALYUBOS_DEVICE, BOARD_CARD, BOARD_DEVICES, BOARD_WINDOWS = BOARD_DEVICES + 2 };
 enum { BOARD_MTU = 1500, BOARD_ADDRESS = 6 };
 
-/* A guest's disks: its own, one that it can't write, and one for its data. The host serves the further two. */
+/* A guest's disks: its own, one that it can't write, and one for its data. */
 enum { BOARD_OWN, BOARD_FIXED, BOARD_DATA, BOARD_DISKS };
 
 /* The longest frame of a driver that keeps to the MTU, and that of any. */
@@ -41,9 +41,12 @@ struct board_settings {
     uint32_t depth;     /* how many operations of a disk that the host serves may be in flight */
     const uint8_t (*addresses)[BOARD_ADDRESS]; /* of each guest's network card, which stands behind an entropy device; or NULL:
                                                   there are no further devices */
-    const char *disks; /* the folder with the files of each guest's further disks, or NULL: fixed-0 and data-0 of a guest whose own
-                          disk's file is disk-0 */
+    const char *disks; /* the folder with the files of each guest's further disks (board_file), which the host serves; or NULL */
+    bool spare;        /* they lie over spare sectors of the image instead, behind the guest's own disk in their order */
 };
+
+/* The file of a further disk in such a folder: fixed-0 of a guest whose card's address ends with 0, fixed-noise of noise. */
+const char *board_file(const char *folder, const uint8_t address[BOARD_ADDRESS], uint8_t disk);
 
 void board_open(const struct board_settings *settings);
 void board_close(void);

@@ -99,14 +99,15 @@ static void try_files(unsigned int seed)
     check(same, "the disk has the files' bytes");
 }
 
-static void try_raw(unsigned int seed)
+/* Writes blocks of a raw disk, and reads them back. */
+static void try_blocks(const char *path, long at, int count, unsigned int seed)
 {
     bool written = true, same = true;
-    for (int i = 0; i < RAW_BLOCKS; i++)
-        written = write_block("/dev/vda", DIRECT, RAW + i * BLOCK, seed + FILES + i) && written;
-    for (int i = 0; i < RAW_BLOCKS; i++) {
-        fill(expected, seed + FILES + i);
-        same = read_block("/dev/vda", RAW + i * BLOCK) && is_expected() && same;
+    for (int i = 0; i < count; i++)
+        written = write_block(path, DIRECT, at + i * BLOCK, seed + i) && written;
+    for (int i = 0; i < count; i++) {
+        fill(expected, seed + i);
+        same = read_block(path, at + i * BLOCK) && is_expected() && same;
     }
     check(written, "the raw disk is written");
     check(same, "the raw disk has its bytes");
@@ -207,7 +208,7 @@ static void show_features_of_devices(void)
 
 /* ---- further disks: one with files, which can't be written, and one for data */
 
-enum { COPIES = 4 };
+enum { COPIES = 4, DATA_BLOCKS = 32 };
 
 /* Copies a file, and brings it to the disk. */
 static bool copy(const char *from, const char *to)
@@ -285,6 +286,25 @@ static void try_disks(unsigned int seed)
     check(unmount("/data") && unmount("/fixed"), "both are let go of");
 }
 
+/* Whether both a write and a range of zeros end with an I/O error. */
+static bool is_refused(const char *path, unsigned int seed)
+{
+    unsigned long long range[2] = { BLOCK, BLOCK };
+    int disk = open(path, O_RDWR | DIRECT, 0);
+    fill(expected, seed);
+    bool refused = disk >= 0 && write(disk, expected, BLOCK) < 0 && errno == EIO;
+    refused = ioctl(disk, BLKZEROOUT, range) < 0 && errno == EIO && refused;
+    close(disk);
+    return refused;
+}
+
+/* Writes all of the data disk; and the read-only one, whose driver isn't told that it is. */
+static void try_raw_disks(unsigned int seed)
+{
+    try_blocks("/dev/vdc", 0, DATA_BLOCKS, seed);
+    check(is_refused("/dev/vdb", seed), "the read-only disk refuses writes");
+}
+
 /* The words of further devices; false of another. */
 static bool answer_of_devices(const char *line, unsigned int seed)
 {
@@ -295,6 +315,8 @@ static bool answer_of_devices(const char *line, unsigned int seed)
         show_random();
     } else if (strcmp(line, "disks") == 0) {
         try_disks(seed);
+    } else if (strcmp(line, "raw") == 0) {
+        try_raw_disks(seed + FILES + RAW_BLOCKS);
     } else if (strncmp(line, WORD, strlen(WORD)) == 0) {
         struct talk talk = try_talk(seed, atoi(line + strlen(WORD)));
         check(talk.first == talk.count, "all that was sent has come");
@@ -330,7 +352,7 @@ static void show_help(void)
            "lines: many of them; sync: all files go to the disk; crowd: many requests at once; off; all else is said again\n");
 #ifdef NETWORK
     printf("devices: features of the others; random: bytes of the host; talk-1024: 1024 KiB go to another guest, and come from it\n"
-           "disks: files go from one further disk to another\n");
+           "disks: files go from one further disk to another; raw: both are written without a file system\n");
 #endif
 }
 
@@ -391,7 +413,7 @@ int main(void)
     printf("init of %s\n", name);
     unsigned int seed = name[strlen(name) - 1];
     try_files(seed);
-    try_raw(seed);
+    try_blocks("/dev/vda", RAW, RAW_BLOCKS, seed + FILES);
     try_zeroes(seed);
     while (ask(line))
         answer(line, seed);

@@ -82,7 +82,14 @@ void machine_talk(struct machine *machine)
 
 /* ---- the windows */
 
-enum { DEVICE_FEATURES = 0x010, DEVICE_FEATURES_SEL = 0x014 };
+enum { DEVICE_FEATURES = 0x010, DEVICE_FEATURES_SEL = 0x014, OWN_FEATURES = 24 };
+
+/* The features that a window's driver isn't shown: those of the first bits are a disk's own (2.2). */
+static uint64_t hidden_of(const struct machine *machine, unsigned window)
+{
+    bool is_disk = window == KALYUBOS_BLOCK || window >= BOARD_DEVICES;
+    return is_disk ? machine->hidden : machine->hidden >> OWN_FEATURES << OWN_FEATURES;
+}
 
 /* A read of the offered features lacks those that are hidden. */
 static uint64_t window_load(struct machine *machine, unsigned window, uint16_t offset, unsigned width)
@@ -90,7 +97,7 @@ static uint64_t window_load(struct machine *machine, unsigned window, uint16_t o
     uint32_t value = board_read(machine->slot, window, offset, width);
     machine->counts[window].reads++;
     if (offset == DEVICE_FEATURES && machine->selected[window] < 2)
-        value &= ~(machine->hidden >> 32 * machine->selected[window]);
+        value &= ~(hidden_of(machine, window) >> 32 * machine->selected[window]);
     return value;
 }
 

@@ -41,7 +41,7 @@ struct machine {
     uint64_t chance;      /* by which it takes longer where several operations are in flight */
     struct machine_flights flights[BOARD_DISKS];
     uint64_t due;         /* the cycle at which the first of what is in flight is done, or all ones */
-    uint64_t hidden;      /* feature bits of the devices that the driver isn't shown */
+    uint64_t hidden;      /* feature bits of the devices that the driver isn't shown; those of one kind of device are a disk's */
     unsigned windows;     /* how many it has: a disk and a console, and where there are further devices also those, disks last */
     uint32_t selected[BOARD_WINDOWS]; /* the word of the features that each was asked for */
     struct machine_counts counts[BOARD_WINDOWS];

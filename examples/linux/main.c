@@ -22,6 +22,8 @@
  *                     files in place: of a guest whose disk's name ends with 0 FOLDER/fixed-0, which it can't write, and
  *                     FOLDER/data-0; of noise fixed-noise and data-noise. By threads with `--hosted threads`, else by io_uring,
  *                     and with the depth and the latency below
+ *   --spare           has these two over spare sectors of the image, behind the guest's own disk, the read-only one first; the
+ *                     files have the bytes that they begin with
  *   --copies          copies each guest's memory into the board and back round each call
  *   --without FEATURE a feature that no driver is shown, as RING_PACKED
  *   --cycles COUNT    leaves a guest that isn't off by then
@@ -29,8 +31,8 @@
  *   --keep GUEST      writes that guest's disk back to its file at the end
  *   --save FILE       saves guest 0, its disk among it, to FILE, a file or a pipe, and leaves it then
  *   --save-at COUNT   once it has run so many cycles, and nothing of it is paused or under way
- *   --image FILE      serves all disks in place from FILE, where they stand one after the other; of the guests' own files
- *                     only the names and the lengths count
+ *   --image FILE      serves all disks of the image in place from FILE, where they stand one after the other; of their own
+ *                     files only the names and the lengths count
  *   --hosted WAY      serves each disk from its guest's file in place, by a board whose disks are the host's: WAY is `ring`,
  *                     by io_uring where that is to be had, or `threads`
  *   --depth COUNT     has up to so many operations of such a disk in flight, 1 where it isn't said, and 64 at most
@@ -184,22 +186,31 @@ static struct machine_file disk_of(size_t guest)
     return saved != NULL ? disk_of_saved(guest, saved) : read_file(word);
 }
 
-/* The disks' bytes, one disk after the other, and how many they are. */
-static uint8_t *image_of_guests(size_t *all)
+/* Puts a disk's bytes behind an image's, and lets go of them. */
+static uint8_t *append(uint8_t *image, size_t *len, struct machine_file disk)
 {
-    uint8_t *image = NULL;
-    size_t len = 0;
+    image = realloc(image, *len + disk.len);
+    if (image == NULL)
+        fail("the image");
+    memcpy(image + *len, disk.bytes, disk.len);
+    free((void *)disk.bytes);
+    *len += disk.len;
+    return image;
+}
+
+/* The disks' bytes, one disk after the other, and how many they are. */
+static uint8_t *image_of_guests(size_t *len)
+{
+    uint8_t *image = NULL, address[BOARD_ADDRESS];
+    *len = 0;
     for (size_t i = 0; i < words.count; i++) {
-        struct machine_file disk = disk_of(i);
-        image = realloc(image, len + disk.len);
-        if (image == NULL)
-            fail("the image");
-        memcpy(image + len, disk.bytes, disk.len);
-        free((void *)disk.bytes);
-        guests[i].sectors = disk.len / SECTOR;
-        len += disk.len;
+        struct machine_file own = disk_of(i);
+        guests[i].sectors = own.len / SECTOR;
+        image = append(image, len, own);
+        set_address(i, address);
+        for (uint8_t disk = BOARD_FIXED; words.spare && disk < BOARD_DISKS; disk++)
+            image = append(image, len, read_file(board_file(words.disks, address, disk)));
     }
-    *all = len;
     return image;
 }
 
@@ -225,7 +236,8 @@ static void open_guests(void)
     board_open(&(struct board_settings){ words.count, sectors, words.guests, served, words.cache, words.outlet,
                                          words.chains, words.bytes, words.record, words.copies, words.hosted,
                                          words.threads, words.large, words.depth,
-                                         words.devices ? (const uint8_t (*)[BOARD_ADDRESS])addresses : NULL, words.disks });
+                                         words.devices ? (const uint8_t (*)[BOARD_ADDRESS])addresses : NULL, words.disks,
+                                         words.spare });
     free(image);
     for (size_t i = 0; i < words.count; i++)
         if (guests[i].is_noise)
@@ -299,7 +311,7 @@ static void turn(void)
         save(&guests[0]);
     for (size_t i = 0; i < words.count; i++)
         stand = stand && (!is_on(&guests[i]) || machine_stands(&guests[i].machine));
-    if (stand && (words.hosted || words.disks != NULL))
+    if (stand && (words.hosted || (words.disks != NULL && !words.spare)))
         board_wait();
 }
 

@@ -24,13 +24,14 @@ static uint64_t number(const char *word)
     return found;
 }
 
-/* A feature's bit by its name (VIRTIO 1.2, 5.2.3 and 6). */
+/* A feature's bit by its name, of a disk or of any device (VIRTIO 1.2, 5.2.3 and 6). */
 static uint64_t feature(const char *word)
 {
     static const struct {
         const char *name;
         unsigned bit;
     } features[] = {
+        { "RO", 5 },
         { "WRITE_ZEROES", 14 },
         { "INDIRECT_DESC", 28 },
         { "EVENT_IDX", 29 },
@@ -56,8 +57,8 @@ static const struct option OPTIONS[] = {
     { "record", required_argument, NULL, 'r' },  { "save", required_argument, NULL, 'v' },
     { "save-at", required_argument, NULL, 'e' }, { "script", required_argument, NULL, 's' },
     { "seed", required_argument, NULL, 'x' },    { "show", required_argument, NULL, 'g' },
-    { "to", required_argument, NULL, 'd' },      { "tree", required_argument, NULL, 't' },
-    { "without", required_argument, NULL, 'w' },
+    { "spare", no_argument, NULL, 'S' },         { "to", required_argument, NULL, 'd' },
+    { "tree", required_argument, NULL, 't' },    { "without", required_argument, NULL, 'w' },
     { NULL, 0, NULL, 0 },
 };
 
@@ -101,6 +102,7 @@ static void take(struct words *words, int option)
     case 'z': words->devices = true; break;
     case 'D': words->disks = optarg; break;
     case 'F': words->frames = optarg; break;
+    case 'S': words->spare = true; break;
     default: exit(2);
     }
 }
@@ -141,6 +143,8 @@ struct words words_of(int argc, char **argv)
         fail("--devices beside a saved guest or --record");
     if ((words.frames != NULL || words.disks != NULL) && !words.devices)
         fail("--frames or --disks without --devices");
+    if (words.spare && (words.disks == NULL || words.hosted))
+        fail("--spare without --disks, or beside --hosted");
     if (words.hosted && (words.image != NULL || words.kept >= 0))
         fail("--hosted beside --image or --keep");
     if (words.depth == 0 || words.depth > 64)

@@ -28,6 +28,7 @@ struct words {
     bool large; /* each guest has two regions of memory */
     bool devices; /* each has an entropy device and a network card */
     const char *disks; /* the folder of the files of two further disks of each, or NULL */
+    bool spare; /* these lie over spare sectors of the image */
     const char *frames; /* the file of the frames that guest 0's card is handed, or NULL: those of the switch */
     int shown; /* the one guest on the screen, or -1 for all */
     int kept;  /* the guest whose disk goes back to its file, or -1 */
