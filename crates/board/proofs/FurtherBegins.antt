@@ -26,7 +26,7 @@ use Rattle.board.specs.declared.reply.Reply.{Reply}
 use Rattle.board.specs.declared.reply.Reply.TheVariants.{BadRange, BadSlot, NoMemory}
 use Rattle.board.specs.Devices.{device_asks, devices_readied, further_service}
 use Rattle.board.specs.Pausing.{ComesTo, TurnsTo}
-use Rattle.board.specs.declared.slot.devices.Asked.{Asked}
+use Rattle.board.specs.declared.slot.device_begins.Asked.{Asked}
 use Rattle.board.specs.Quiet.{AnswersAtDevice, AsksAtDevice, AsksImageDisk, BeginsAsked, BeginsAtDevice, DoesToDevice, ServesFurther}
 use Rattle.board.specs.Slot.{BoardSlot, state_of}
 use Rattle.board.proofs.FurtherPieces.{sender}

@@ -4,7 +4,7 @@ use Rattle.guest_memory.specs.Memory.{SameRange}
 use Rattle.chain.specs.declared.budget.Budget.{Budget}
 use Rattle.mmio_window.specs.declared.stage.Stage.{Stage}
 use Rattle.mmio_window.specs.declared.stage.Stage.TheVariants.{First}
-use Rattle.board.specs.declared.slot.devices.Asked.{Asked}
+use Rattle.board.specs.declared.slot.device_begins.Asked.{Asked}
 use Rattle.board.specs.declared.event.DeviceEvent.{DeviceEvent}
 use Rattle.board.specs.declared.event.EventKind.{EventKind}
 use Rattle.board.specs.declared.event.EventKind.TheVariants.{Device}

@@ -24,6 +24,7 @@ ghost use Rattle.board.specs.declared.reply.Reply.{Reply};
 ghost use Rattle.std.specs.Borrow.{sem};
 
 mod console;
+mod device_begins;
 mod devices;
 mod hosting;
 mod memory;
