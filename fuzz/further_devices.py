@@ -305,7 +305,7 @@ class CardDriver(FurtherDriver):
     def take_one(self):
         frame = self.sent.pop(0) if self.sent else b""
         self.take_out(frame)
-        if frame:
+        if frame and not self.sent:
             self.serve(self.TRANSMIT)
 
     def link(self):

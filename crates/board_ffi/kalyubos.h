@@ -561,8 +561,8 @@ uint32_t kalyubos_receive(struct kalyubos *board, uint8_t slot, uint8_t window, 
  * stays. No frame has more than 65536 bytes, and none of a driver that keeps to the MTU more than that and 14.
  *
  * Take frames after each kalyubos_write to the window, until there is none. The card keeps as many as the other way;
- * where there is no room the driver's next frame waits for such a call, which serves it. After MORE too the frame was
- * moved out; kalyubos_go_on serves the others.
+ * where there is no room the driver's next frame waits, until the call that takes the last one that is kept. After MORE too the
+ * frame was moved out; kalyubos_go_on serves the others.
  *
  * From a console it moves out all output that waits, in place of a frame: `into` of 65536 bytes takes all that there may be.
  * Call it once after each kalyubos_write to the window. What finds no room waits with its driver for such a call, but the byte

@@ -372,7 +372,7 @@ static void check_short_buffer(void)
     need(wait(0, CARD, &pending) == KALYUBOS_DONE && pending.frame == 0 && pending.interrupt == 1, "what waits", pending.frame);
 }
 
-/* Where 65536 bytes wait the driver's next frame does too, and a take lets it pass. */
+/* Where 65536 bytes wait the driver's next frame does too, and the taking of the last one lets it pass. */
 static void check_full_card(void)
 {
     const struct descriptor chain = { MEMORY + DATA, HEADER + ROOM / 2, 0, 0 };
@@ -382,7 +382,7 @@ static void check_full_card(void)
     go_on(LARGE_CARD, 0, 2, 2);
     for (uint16_t left = 3; left > 0; left--) {
         need(take(0, LARGE_CARD, into, sizeof into, &len) == KALYUBOS_DONE && len == ROOM / 2, "a frame", left);
-        need(used() == 3, "the third one is sent", used());
+        need(used() == (left == 3 ? 2 : 3), "the third one is sent once two are taken", used());
     }
     need(take(0, LARGE_CARD, into, sizeof into, &len) == KALYUBOS_DONE && len == 0, "a fourth frame", len);
 }

@@ -208,7 +208,8 @@ impl Board {
     /// tells its length. None has more than 65536 bytes, or more than the MTU and 14 where the driver keeps to the MTU.
     ///
     /// Take frames after each [`write`](Board::write) to the window, until there is none: the card keeps as many as the other
-    /// way, and the driver's next frame waits for such a call, which serves it: where that pauses the frame was moved out already.
+    /// way, and the driver's next frame waits until the last one that is kept is taken: where its service pauses, that one was moved out
+    /// already.
     ///
     /// From a console it moves out all output that waits, in place of a frame: a buffer of 65536 bytes takes all that there may be.
     /// Call it once after each write to the window. What finds no room waits with its driver for such a call, but the byte of an

@@ -442,11 +442,17 @@ fn what_a_take_makes_room_for_pauses_and_goes_on() {
     assert!(!board.write(0, window, NOTIFY, 4, 1).unwrap().more);
     assert_eq!(used(&mut board).0, 64);
 
+    for _ in 1..64 {
+        assert_eq!(board.take_frame(0, 0, &mut [0; 8]), whole(Some(1)));
+    }
+    assert_eq!(used(&mut board).0, 64);
     let handed = board.take_frame(0, 0, &mut [0; 8]).unwrap();
     assert_eq!((handed.taken, handed.more), (Some(1), true));
     assert_eq!(board.take_frame(0, 0, &mut [0; 8]), Err(Error::Busy));
     assert!(!board.go_on(0).unwrap().more);
-    assert_eq!(used(&mut board).0, 65);
-    assert_eq!(board.take_frame(0, 0, &mut [0; 8]), whole(Some(1)));
     assert_eq!(used(&mut board).0, 66);
+    for _ in 0..2 {
+        assert_eq!(board.take_frame(0, 0, &mut [0; 8]), whole(Some(1)));
+    }
+    assert_eq!(board.take_frame(0, 0, &mut [0; 8]), whole(None));
 }

@@ -19,7 +19,7 @@ use Rattle.block_device.specs.Device.{exact_device}
 use Rattle.block_device.specs.Extent.{SameOutside}
 use Rattle.device_list.specs.Card.{Card, receive_refusal}
 use Rattle.device_list.specs.Device.{DeviceState, device_written, received, supplied, supply_taken, taking, with_model}
-use Rattle.device_list.specs.List.{card_at, changed_at, image_at, notified_at, sent_by}
+use Rattle.device_list.specs.List.{card_at, changed_at, has_more_sent_at, image_at, notified_at, sent_by}
 use Rattle.device_list.specs.Model.{ModelState, card_of, image_of, taken_of, without_sent}
 use Rattle.device_list.specs.Model as model
 use Rattle.board.specs.declared.event.DeviceEvent.{DeviceEvent}
@@ -151,12 +151,19 @@ asked_write n (Receive frame) state disk is = by_card (card_at n state.devices) 
             never_some (image_served (Further n 0) state) disk
             (served_other n 0 state (card_is_no_image n state.devices card there)) is
         by_refusal false is = cc is
-asked_write n DropSent state disk is = by_sent (sent_by n state.devices) is
+asked_write n DropSent state disk is =
+    by_more (has_more_sent_at n state.devices) (sent_by n state.devices) is
   where
     by_sent : (sent : Option (List ℕ)) → option_and_then (λ pause. image_served pause.service state)
         (option_map (λ (bytes : List ℕ). further_service n 1 (Some (length bytes))) sent) ≡ Some disk → ⊥
     by_sent None is = cc is
     by_sent (Some bytes) is = cc is
+
+    by_more : (more : Bool) (sent : Option (List ℕ)) → option_and_then (λ pause. image_served pause.service state)
+        (if more then None else option_map (λ (bytes : List ℕ). further_service n 1 (Some (length bytes))) sent)
+        ≡ Some disk → ⊥
+    by_more true sent is = cc is
+    by_more false sent is = by_sent sent is
 asked_write n _ state disk is = absurd (cc is)
 
 -- and what is done to a device of a slot whose own disk the host serves asks none

@@ -15,7 +15,7 @@ use Rattle.block_device.specs.declared.operation.HostEvent.{HostEvent}
 use Rattle.hosted_disk.specs.Disk.{HostedDisk, LooksAtQueue, ServesDisk}
 use Rattle.hosted_disk.specs.Told.{DoesAsTold}
 use Rattle.device_list.specs.Card.{Card, with_frame, with_link}
-use Rattle.device_list.specs.Device.{DeviceState, Receives, ServesDevice, ServesNotified, TakesSent, Told, Writes, device_written, linked, notified_by, resized, taking, with_model}
+use Rattle.device_list.specs.Device.{DeviceState, Receives, ServesDevice, ServesNotified, TakesSent, Told, Writes, device_written, freed_by, linked, notified_by, resized, taking, with_model}
 use Rattle.device_list.specs.List.{At, are_at_work, changed_at, disk_at}
 use Rattle.snapshot.specs.declared.saved.SavedDevice.{SavedDevice}
 use Rattle.device_list.specs.Saved.{device_window_restored, first_restored, with_window}
@@ -267,6 +267,13 @@ after_steps May change q m m' d d' leaves h =
     changed_steps May d.model (change d.model) d'.model (leaves d.model)
     (serves_steps May (change d.model) q m m' d.window d'.window d'.model h)
 
+-- the host takes what was sent, and then the queue is served for which there is room
+sent_steps : (May : HostEvent → Type 0) (m m' : Memory) (d d' : DeviceState) → TakesSent m m' d d'
+    → ModelSteps May d.model d'.model
+sent_steps May m m' d d' h =
+    changed_steps May d.model (without_sent d.model) d'.model (sent_leaves d.model)
+    (notified_steps May (freed_by d) m m' (with_model without_sent d) d' h)
+
 told_steps : (May : HostEvent → Type 0) (said : HostEvent) (m m' : Memory) (d d' : DeviceState) → May said
     → Told said m m' d d' → ModelSteps May d.model d'.model
 told_steps May said m m' d d' may told =
@@ -285,11 +292,9 @@ does_left {A} k n (Receive frame) d m m' old new there h =
     if_left k (Receive frame) n d _ (Receives frame) m m' old new there h (λ e e' same received.
     after_steps _ (with_card (with_frame frame)) 0 m m' e e' (cards_leave (with_frame frame)) received)
 does_left {A} k n TakeSent d m m' old new there h =
-    if_left k TakeSent n d _ TakesSent m m' old new there h (λ e e' same taken.
-    after_steps _ without_sent 1 m m' e e' sent_leaves taken)
+    if_left k TakeSent n d _ TakesSent m m' old new there h (λ e e' same taken. sent_steps _ m m' e e' taken)
 does_left {A} k n DropSent d m m' old new there h =
-    if_left k DropSent n d _ TakesSent m m' old new there h (λ e e' same taken.
-    after_steps _ without_sent 1 m m' e e' sent_leaves taken)
+    if_left k DropSent n d _ TakesSent m m' old new there h (λ e e' same taken. sent_steps _ m m' e e' taken)
 does_left {A} k n (Write offset width value) d m m' old new there h =
     if_left k (Write offset width value) n d _ (Writes offset width value) m m' old new there h
     (λ e e' same wrote. written_steps _ offset width value m m' e e' wrote)

@@ -1,6 +1,6 @@
 -- What is done to a further device begins: its service's first piece, or what is done at once.
 use Rattle.std.proofs.Common.{◌≡◌, inl, inr, length, ℕ, true, false, false, Option, Some, None, List, [], refl, sym, ◌∙◌, ap, subst}
-use Rattle.std.specs.Prelude.{if◌then◌else◌, IfErr, IfOk, Result, Ok, Err, is_none, is_some}
+use Rattle.std.specs.Prelude.{if◌then◌else◌, Bool, IfErr, IfOk, Result, Ok, Err, is_none, is_some, unwrap_or}
 use Rattle.std.specs.List.{slice_get}
 use Rattle.std.specs.Option.{option_and_then, option_map, option_map_or}
 use Rattle.std.proofs.lemmas.Option.{same_Some}
@@ -13,9 +13,9 @@ use Rattle.mmio_window.specs.declared.stage.Stage.TheVariants.{First}
 use Rattle.device_list.specs.declared.refusal.ReceiveRefusal.{ReceiveRefusal}
 use Rattle.device_list.specs.Card.{receive_refusal}
 use Rattle.device_list.specs.Device.{DeviceState, TakesSent, device_written, received, supplied, supply_taken, with_model}
-use Rattle.device_list.specs.List.{At, DevicesServeTo, card_at, changed_at, notified_at, sent_by, waits_at}
-use Rattle.device_list.specs.Model.{without_sent}
-use Rattle.device_list.proofs.Pieces.{at_changed, changed_there, devices_once, pauses_by_limit}
+use Rattle.device_list.specs.List.{At, DevicesServeTo, card_at, changed_at, has_more_sent_at, notified_at, outgoing_at, sent_by, waits_at}
+use Rattle.device_list.specs.Model.{outgoing_of, without_sent}
+use Rattle.device_list.proofs.Pieces.{at_changed, changed_so, changed_there, devices_once, pauses_by_limit}
 use Rattle.board.specs.declared.event.DeviceEvent.{DeviceEvent}
 use Rattle.board.specs.declared.event.DeviceEvent.TheVariants.{Write, Supply, Receive, DropSent}
 use Rattle.board.specs.declared.event.EventKind.TheVariants.{Device}
@@ -23,13 +23,18 @@ use Rattle.board.specs.declared.pause.Pause.{Pause}
 use Rattle.board.specs.declared.pause.Turn.{Turn}
 use Rattle.board.specs.declared.pause.Turn.TheVariants.{Answered}
 use Rattle.board.specs.declared.reply.Reply.{Reply}
-use Rattle.board.specs.declared.reply.Reply.TheVariants.{BadRange, BadSlot, NoMemory}
-use Rattle.board.specs.Devices.{device_asks, devices_readied, further_service}
+use Rattle.board.specs.declared.reply.Reply.TheVariants.{BadRange, BadSlot, NoMemory, Took}
+use Rattle.board.specs.Devices.{device_asks, devices_readied, further_service, reply_at}
+use Rattle.board.specs.Image.{Health}
+use Rattle.board.specs.ImageDisks.{GivesAtDevice, image_served}
+use Rattle.board.specs.Outcome.{replies}
+use Rattle.board.specs.OverImage.{GivesOverImage}
 use Rattle.board.specs.Pausing.{ComesTo, TurnsTo}
 use Rattle.board.specs.declared.slot.device_begins.Asked.{Asked}
 use Rattle.board.specs.Quiet.{AnswersAtDevice, AsksAtDevice, AsksImageDisk, BeginsAsked, BeginsAtDevice, DoesToDevice, ServesFurther}
 use Rattle.board.specs.Slot.{BoardSlot, state_of}
-use Rattle.board.proofs.FurtherPieces.{sender}
+use Rattle.board.proofs.Beside.{same_range}
+use Rattle.board.proofs.FurtherPieces.{more_there, outgoing_is, sender, takes_by}
 use Rattle.board.specs.World.{MayGiveOverImage}
 
 -- the slot with other devices
@@ -145,8 +150,9 @@ module _ (A : Type 0) (n : ℕ) (slot : BoardSlot) where
 
   -- and what was sent is dropped
   drop_asks : (count : ℕ) → Some count ≡ option_map (λ sent. length sent) (sent_by n slot.devices)
+      → has_more_sent_at n slot.devices ≡ false
       → device_asks {A = A} n DropSent (state_of [] slot) ≡ Some (further_service n 1 (Some count))
-  drop_asks count is = by_sent (sent_by n slot.devices) is
+  drop_asks count is last = rw last (by_sent (sent_by n slot.devices) is)
     where
       by_sent : (sent : Option (List ℕ)) → Some count ≡ option_map (λ sent. length sent) sent
           → option_map (λ sent. further_service n 1 (Some (length sent))) sent ≡ Some (further_service n 1 (Some count))
@@ -155,12 +161,34 @@ module _ (A : Type 0) (n : ℕ) (slot : BoardSlot) where
 
   pub nothing_asks : None ≡ option_map (λ (sent : List ℕ). length sent) (sent_by n slot.devices)
       → device_asks {A = A} n DropSent (state_of [] slot) ≡ None
-  nothing_asks is = by_sent (sent_by n slot.devices) is
+  nothing_asks is = by_more (has_more_sent_at n slot.devices) _ (by_sent (sent_by n slot.devices) is)
     where
+      by_more : (more : Bool) (asked : Option Pause) → asked ≡ None → (if more then None else asked) ≡ None
+      by_more true asked none = refl
+      by_more false asked none = none
+
       by_sent : (sent : Option (List ℕ)) → None ≡ option_map (λ (sent : List ℕ). length sent) sent
           → option_map (λ sent. further_service n 1 (Some (length sent))) sent ≡ None
       by_sent None is = refl
       by_sent (Some sent) is = absurd (cc (is))
+
+  more_asks : has_more_sent_at n slot.devices ≡ true → device_asks {A = A} n DropSent (state_of [] slot) ≡ None
+  more_asks more = rw more refl
+
+-- whether more waits is seen once what was sent is taken
+more_is : (n : ℕ) (old new : List DeviceState) → new ≡ changed_at (with_model without_sent) n old
+    → has_more_sent_at n old ≡ is_some (sent_by n new)
+more_is n old new is =
+    by_found (slice_get old n) refl ∙ ap (λ (l : List DeviceState). is_some (sent_by n l)) (sym is)
+  where
+    by_found : (found : Option DeviceState) → slice_get old n ≡ found
+        → has_more_sent_at n old ≡ is_some (sent_by n (changed_at (with_model without_sent) n old))
+    by_found None there = rw (there, there) refl
+    by_found (Some d) there =
+        sym (more_there n old d there)
+        ∙ sym (ap (λ (o : Option DeviceState). is_some (option_and_then (λ waits. waits)
+        (option_and_then (λ (d : DeviceState). outgoing_of d.model) o)))
+        (changed_there (with_model without_sent) n old d there))
 
 -- so it asks for it, in the slot that was seen so
 module _ (A : Type 0) (n : ℕ) (view old : BoardSlot) (seen : view ≡ old) (changed : List DeviceState) where
@@ -193,9 +221,11 @@ module _ (A : Type 0) (n : ℕ) (view old : BoardSlot) (seen : view ≡ old) (ch
       asks_so (Receive frame) (further_service n 0 (Some (length frame))) (receive_asks A n view frame takes)
 
   pub drop_asked : (count : ℕ) → Some count ≡ option_map (λ sent. length sent) (sent_by n view.devices)
-      → changed ≡ changed_at (with_model without_sent) n view.devices
+      → changed ≡ changed_at (with_model without_sent) n view.devices → is_some (sent_by n changed) ≡ false
       → AsksAtDevice {A = A} n DropSent old (having view changed) (further_service n 1 (Some count))
-  drop_asked count is = asks_so DropSent (further_service n 1 (Some count)) (drop_asks A n view count is)
+  drop_asked count is same last =
+      asks_so DropSent (further_service n 1 (Some count))
+      (drop_asks A n view count is (more_is n view.devices changed same ∙ last)) same
 
   -- where nothing was sent it is answered at once
   pub nothing_dropped : (reply : Reply A) → None ≡ option_map (λ (sent : List ℕ). length sent) (sent_by n view.devices)
@@ -225,11 +255,29 @@ some_sent : (sent : Option (List ℕ)) (count : ℕ) → Some count ≡ option_m
 some_sent None count is = absurd (cc (is))
 some_sent (Some sent) count is = refl
 
+-- what was sent is taken where more waits: nothing is served
+pub taken_first : (n : ℕ) (m : Memory) (old new : List DeviceState) (count : ℕ)
+    → Some count ≡ option_map (λ (sent : List ℕ). length sent) (sent_by n old)
+    → new ≡ changed_at (with_model without_sent) n old → is_some (sent_by n new) ≡ true → At TakesSent n m m old new
+taken_first n m old new count sent is more =
+    let from = sender n old (slice_get old n) refl (some_sent (sent_by n old) count sent) in
+    let after = with_model without_sent from.device in
+    record {
+      before = from.device;
+      after = after;
+      there = from.there;
+      changes = takes_by true m m from.device after
+          (more_there n old from.device from.there ∙ more_is n old new is ∙ more) (refl, refl);
+      is = is ∙ changed_so (with_model without_sent) n old from.device from.there;
+    }
+
+-- and where nothing more waits the queue is served
 pub taken_at : (n : ℕ) (m m' : Memory) (old mid new : List DeviceState) (progress : Progress) (count : ℕ)
     → Some count ≡ option_map (λ (sent : List ℕ). length sent) (sent_by n old) → mid ≡ changed_at (with_model without_sent) n old
+    → is_some (sent_by n mid) ≡ false
     → DevicesServeTo First (record { chains = None; bytes = None }) progress n 1 m m' mid new
     → At TakesSent n m m' old new
-taken_at n m m' old mid new progress count sent is h =
+taken_at n m m' old mid new progress count sent is last h =
     let from = sender n old (slice_get old n) refl (some_sent (sent_by n old) count sent) in
     let change = with_model without_sent in
     let done = unlimited_ends First progress n 1 m m' mid new h in
@@ -240,4 +288,67 @@ taken_at n m m' old mid new progress count sent is h =
     let whole = devices_once (record { chains = None; bytes = None }) n 1 m m' (changed_at change n old) new
     (change from.device) (changed_there change n old from.device from.there) over in
     let at = at_changed change 1 n m m' old new from.device from.there whole in
-    record { before = at.before; after = at.after; there = at.there; changes = at.changes; is = at.is }
+    record {
+      before = at.before;
+      after = at.after;
+      there = at.there;
+      changes = takes_by false m m' at.before at.after
+          (more_there n old at.before at.there ∙ more_is n old mid is ∙ last) at.changes;
+      is = at.is;
+    }
+
+-- where more waits, what was sent is dropped and answered at once
+module _ (A : Type 0) (n : ℕ) (view old : BoardSlot) (seen : view ≡ old) (changed : List DeviceState) where
+  drops_first : (count : ℕ) → Some count ≡ option_map (λ (sent : List ℕ). length sent) (sent_by n view.devices)
+      → changed ≡ changed_at (with_model without_sent) n view.devices → is_some (sent_by n changed) ≡ true
+      → DoesToDevice {A = A} n DropSent view (having view changed) (Took count)
+  drops_first count sent is more = by_sent (sent_by n view.devices) refl sent
+    where
+      by_sent : (found : Option (List ℕ)) → sent_by n view.devices ≡ found
+          → Some count ≡ option_map (λ (bytes : List ℕ). length bytes) found
+          → DoesToDevice {A = A} n DropSent view (having view changed) (Took count)
+      by_sent None there counts = absurd (cc (counts))
+      by_sent (Some bytes) there counts = record {
+        given = λ image health.
+            inl (record { alike = gives image health; answered = λ lacks. cc (lacks); failures = refl });
+        rest = refl;
+        range = same_range view.memory;
+        there = λ is. cc (is);
+        in_range = λ is. cc (is);
+        no_memory = λ lacks. absurd (cc (lacks));
+      }
+        where
+          answer : ℕ → Option (Reply A)
+          answer k = Some (Took k)
+
+          answers : reply_at {A = A} n DropSent (state_of [] view) ≡ Some (Took count)
+          answers =
+              ap (λ (o : Option (Option (List ℕ))). option_map (λ s. Took (length (unwrap_or s []))) o)
+              (outgoing_is (outgoing_at n view.devices) bytes there)
+              ∙ ap answer (sym (same_Some count (length bytes) counts))
+
+          none_asked : (image : List ℕ) → device_asks {A = A} n DropSent (state_of image view) ≡ None
+          none_asked image = more_asks A n view (more_is n view.devices changed is ∙ more)
+
+          gives : (image : List ℕ) (health : Health)
+              → GivesOverImage {A = A} (state_of image view) (Device n DropSent) health health
+              (replies (state_of image (having view changed)) (Took count))
+          gives image health =
+              subst (λ (asked : Option Pause). GivesAtDevice (option_and_then (λ pause. image_served pause.service
+              (state_of image view)) asked) n DropSent (state_of image view) health health
+              (replies {A = A} (state_of image (having view changed)) (Took count))) (sym (none_asked image))
+              (rw answers (record {
+                at = rw there (taken_first n view.memory view.devices changed count sent is more);
+                is = refl;
+                image = refl;
+              }))
+
+  pub first_dropped : (count : ℕ) → Some count ≡ option_map (λ (sent : List ℕ). length sent) (sent_by n view.devices)
+      → changed ≡ changed_at (with_model without_sent) n view.devices → is_some (sent_by n changed) ≡ true
+      → AnswersAtDevice {A = A} n DropSent old (having view changed) (Took count)
+  first_dropped count sent is more =
+      subst (λ (s : BoardSlot). AnswersAtDevice {A = A} n DropSent s (having view changed) (Took count)) seen
+      (record {
+        asks = more_asks A n view (more_is n view.devices changed is ∙ more);
+        does = drops_first count sent is more;
+      })

@@ -18,8 +18,8 @@ use Rattle.chain.specs.declared.budget.Progress.TheVariants as progress
 use Rattle.mmio_window.specs.declared.stage.Stage.TheVariants.{First}
 use Rattle.device_list.specs.declared.refusal.ReceiveRefusal.{ReceiveRefusal}
 use Rattle.device_list.specs.Card.{receive_refusal}
-use Rattle.device_list.specs.Device.{DeviceState, Receives, ServesDevice, TakesSent, Writes, device_written, received, supplied, supply_taken, with_model}
-use Rattle.device_list.specs.List.{At, card_at, changed_at, notified_at, outgoing_at, sent_by, waits_at}
+use Rattle.device_list.specs.Device.{DeviceState, Receives, ServesDevice, ServesNotified, TakesSent, Writes, device_written, has_more_sent, received, supplied, supply_taken, with_model}
+use Rattle.device_list.specs.List.{At, card_at, changed_at, has_more_sent_at, notified_at, outgoing_at, sent_by, waits_at}
 use Rattle.device_list.specs.Model.{card_of, outgoing_of, without_sent}
 use Rattle.device_list.proofs.Pieces.{at_changed, changed_there, devices_once}
 use Rattle.board.specs.declared.event.DeviceEvent.{DeviceEvent}
@@ -224,17 +224,29 @@ pub sender : (n : ℕ) (devices : List DeviceState) (found : Option DeviceState)
 sender n devices None there sent = absurd (cc (sent))
 sender n devices (Some d) there sent = record { device = d; there = there }
 
-outgoing_is : (found : Option (Option (List ℕ))) (sent : List ℕ) → option_and_then (λ waits. waits) found ≡ Some sent
+pub outgoing_is : (found : Option (Option (List ℕ))) (sent : List ℕ) → option_and_then (λ waits. waits) found ≡ Some sent
     → found ≡ Some (Some sent)
 outgoing_is None sent is = absurd (cc (is))
 outgoing_is (Some waits) sent is = ap (λ (o : Option (List ℕ)). Some o) is
 
-drop_asking : {A : Type 0} (n : ℕ) (state : SlotState) (pause : Pause) (sent : Option (List ℕ))
-    → sent_by n state.devices ≡ sent
-    → option_map (λ sent. further_service n 1 (Some (length sent))) sent ≡ Some pause
+-- whether more waits is told by the device that is there
+pub more_there : (n : ℕ) (devices : List DeviceState) (d : DeviceState) → slice_get devices n ≡ Some d
+    → has_more_sent d ≡ has_more_sent_at n devices
+more_there n devices d there = sym (ap (λ (o : Option DeviceState). option_map_or has_more_sent o false) there)
+
+-- what was sent is taken, and the queue is served or nothing is
+pub takes_by : (more : Bool) (m m' : Memory) (d d' : DeviceState) → has_more_sent d ≡ more
+    → ServesNotified (if more then None else Some 1) m m' (with_model without_sent d) d' → TakesSent m m' d d'
+takes_by more m m' d d' is h =
+    subst (λ (b : Bool). ServesNotified (if b then None else Some 1) m m' (with_model without_sent d) d') (sym is) h
+
+drop_asking : {A : Type 0} (n : ℕ) (state : SlotState) (pause : Pause) (more : Bool) (sent : Option (List ℕ))
+    → has_more_sent_at n state.devices ≡ more → sent_by n state.devices ≡ sent
+    → (if more then None else option_map (λ sent. further_service n 1 (Some (length sent))) sent) ≡ Some pause
     → Asking {A = A} n DropSent state pause
-drop_asking n state pause None is asks = absurd (cc (asks))
-drop_asking {A} n state pause (Some sent) is asks =
+drop_asking n state pause true sent has is asks = absurd (cc (asks))
+drop_asking n state pause false None has is asks = absurd (cc (asks))
+drop_asking {A} n state pause false (Some sent) has is asks =
     let found = sender n state.devices (slice_get state.devices n) refl (ap (λ (o : Option (List ℕ)). is_some o) is) in
     record {
       device = found.device;
@@ -248,7 +260,9 @@ drop_asking {A} n state pause (Some sent) is asks =
           (outgoing_is (outgoing_at n state.devices) sent is);
       does = λ m' new h.
           rw is (at_one (λ m m' d d'. ServesDevice 1 m m' (with_model without_sent d) d') TakesSent n state.memory m'
-          state.devices new found.device found.there (λ d' serves. serves) h);
+          state.devices new found.device found.there
+          (λ d' serves. takes_by false state.memory m' found.device d'
+          (more_there n state.devices found.device found.there ∙ has) serves) h);
     }
 
 pub asking : {A : Type 0} (n : ℕ) (what : DeviceEvent A) (state : SlotState) (pause : Pause)
@@ -258,7 +272,8 @@ asking n (Write offset width value) state pause asks =
 asking n (Supply bytes) state pause asks = supply_asking n bytes state pause asks
 asking n (Receive frame) state pause asks =
     receive_asking n frame state pause (receive_refusal frame (card_at n state.devices)) refl asks
-asking n DropSent state pause asks = drop_asking n state pause (sent_by n state.devices) refl asks
+asking n DropSent state pause asks =
+    drop_asking n state pause (has_more_sent_at n state.devices) (sent_by n state.devices) refl refl asks
 asking n _ state pause asks = absurd (cc (asks))
 
 -- ---- at the end

@@ -293,10 +293,10 @@ module _ (K : Memory → Memory → Type 0) (left : IsLeftByWrites K) where
       (λ d d' x. serves_left (with_card (with_frame frame) d.model) 0 m n d.window d'.window d'.model x) h
   at_left event.TakeSent i m n old new h =
       does_if_left (is_some (sent_by i old)) TakesSent i m n old new
-      (λ d d' x. serves_left (without_sent d.model) 1 m n d.window d'.window d'.model x) h
+      (λ d d' x. notified_device_left (device.freed_by d) m n (device.with_model without_sent d) d' x) h
   at_left event.DropSent i m n old new h =
       does_if_left (is_some (sent_by i old)) TakesSent i m n old new
-      (λ d d' x. serves_left (without_sent d.model) 1 m n d.window d'.window d'.model x) h
+      (λ d d' x. notified_device_left (device.freed_by d) m n (device.with_model without_sent d) d' x) h
   at_left {A} (event.Read offset width) i m n old new h =
       alters_left {A = A} (event.Read offset width) m n h.before h.after h.changes
   at_left (event.Write offset width value) i m n old new h =

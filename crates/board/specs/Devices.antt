@@ -11,7 +11,7 @@ use Rattle.device_list.specs.declared.spec.DeviceSpec.{DeviceSpec}
 use Rattle.device_list.specs.Card.{receive_refusal}
 use Rattle.device_list.specs.Device.{DeviceState, Receives, Supplies, TakesSent, Told, Writes, device_written, fresh_device, linked, received, register_of, resized, supplied, supply_taken, with_model}
 use Rattle.device_list.specs.Model.{without_sent}
-use Rattle.device_list.specs.List.{At, IsRefusedFor, card_at, changed_at, disk_at, notified_at, outgoing_at, refusal_of, sent_by, terminal_at, waits_at}
+use Rattle.device_list.specs.List.{At, IsRefusedFor, card_at, changed_at, disk_at, has_more_sent_at, notified_at, outgoing_at, refusal_of, sent_by, terminal_at, waits_at}
 use Rattle.hosted_disk.specs.Told.{has_effect}
 use Rattle.board.specs.declared.event.DeviceEvent.{DeviceEvent}
 use Rattle.board.specs.declared.event.DeviceEvent.TheVariants.{Plug, Read, Write, Supply, Receive, TakeSent, DropSent, SetLink, Resize, Host}
@@ -146,8 +146,8 @@ abbrev pub further_service : ℕ → ℕ → Option ℕ → Pause
 further_service n q taken = record { service = Further n q; taken = taken }
 
 -- The service that what is done to device n asks for, if it does: of the queue that is notified, of that which waits for
--- what its host hands in, or of that for which there is room again. Where the host is answered the bytes that it takes, the
--- last one is served to its end.
+-- what its host hands in, or of that for which there is room again, once its host took all that waited. Where the host is
+-- answered the bytes that it takes, the last one is served to its end.
 abbrev pub device_asks : {A : Type 0} → ℕ → DeviceEvent A → SlotState → Option Pause
 device_asks n (Write offset width value) state =
     if waits_there n offset state.devices then None
@@ -160,7 +160,8 @@ device_asks n (Receive frame) state =
     if is_none (receive_refusal frame (card_at n state.devices)) then Some (further_service n 0 (Some (length frame)))
     else None
 device_asks n DropSent state =
-    option_map (λ sent. further_service n 1 (Some (length sent))) (sent_by n state.devices)
+    if has_more_sent_at n state.devices then None
+    else option_map (λ sent. further_service n 1 (Some (length sent))) (sent_by n state.devices)
 device_asks n what state = None
 
 -- what asks for none, whatever the slot has

@@ -95,8 +95,8 @@ pub extern "C" fn kalyubos_receive(
 }
 
 /// Moves out what a device's driver sent, whole: the oldest frame of a network card, or all output of a console. Tells how many bytes
-/// it has: none where nothing waits. Where it finds no room it stays, and its length is told. What there is room for then is served:
-/// where that pauses the bytes are moved out all the same.
+/// it has: none where nothing waits. Where it finds no room it stays, and its length is told. Once nothing more waits, the chains on
+/// offer are served: where that pauses the bytes are moved out all the same.
 #[unsafe(no_mangle)]
 pub extern "C" fn kalyubos_take_frame(
     board: &mut Handle,

@@ -8,7 +8,7 @@ use crate::codes::{SHORT_BUFFER, handed};
 use session::Session;
 
 /// Moves out what a device's driver sent, the oldest frame of a card or all output of a console, where it finds room, and tells how
-/// many bytes it has, also where the service of what there is room for then pauses.
+/// many bytes it has, also where the service that comes of it pauses.
 pub(crate) fn take_frame(
     session: &mut Session,
     slot: u8,

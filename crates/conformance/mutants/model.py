@@ -1083,7 +1083,8 @@ class Card(Further):
         if not self.sent.waiting:
             return b""
         found = self.sent.first()
-        self.notify("further", 1)
+        if not self.sent.waiting:
+            self.notify("further", 1)
         return found
 
     def set_link(self, is_up):

@@ -23,7 +23,7 @@ use Rattle.hosted_disk.specs.Disk.{HostedDisk, ServesDisk}
 use Rattle.hosted_disk.specs.Told.{DoesAsTold}
 use Rattle.hosted_disk.proofs.One.{serve_disk, tell_disk}
 use Rattle.device_list.specs.Card.{Card, ReceivesFrames, ServesCard, TransmitsFrames, card_limits, kept_behind}
-use Rattle.device_list.specs.Device.{DeviceState, Receives, ServesAfter, ServesNotified, Supplies, TakesSent, Told, Writes, device_written, notified_by, received, supplied}
+use Rattle.device_list.specs.Device.{DeviceState, Receives, ServesAfter, ServesNotified, Supplies, TakesSent, Told, Writes, device_written, freed_by, notified_by, received, supplied, with_model}
 use Rattle.device_list.specs.List.{At}
 use Rattle.device_list.specs.Model.{ModelState, Entropy, Network as NetworkModel, Block as BlockModel, Console as ConsoleModel, Image as ImageModel, Serves, ServesAs, without_sent}
 use Rattle.device_list.specs.Terminal.{ReceivesInput, ServesTerminal, Terminal, TransmitsOutput, terminal_limit}
@@ -208,7 +208,9 @@ reception_once frame = after_once (received frame) 0
 
 pub taking_once : (i : ℕ) (m n o : Memory) (old new new' : List DeviceState) → At TakesSent i m n old new
     → At TakesSent i m o old new' → (n ≡ o) × (new ≡ new')
-taking_once = after_once without_sent 1
+taking_once =
+    at_once TakesSent (λ m n o old one other a b.
+    notified_serves_once (freed_by old) m n o (with_model without_sent old) one other a b)
 
 -- and what the host says of a disk
 told_once : (said : HostEvent) (m n o : Memory) (old one other : DeviceState) → Told said m n old one

@@ -306,7 +306,7 @@ devices_once budget n q m m' old new d there h =
 
 -- ---- a device that changed before
 
-changed_so : (change : DeviceState → DeviceState) (n : ℕ) (old : List DeviceState) (d : DeviceState)
+pub changed_so : (change : DeviceState → DeviceState) (n : ℕ) (old : List DeviceState) (d : DeviceState)
     → slice_get old n ≡ Some d → changed_at change n old ≡ slice_set old n (change d)
 changed_so change n old d there =
     ap (λ (found : Option DeviceState). option_map_or (λ d. slice_set old n (change d)) found old) there

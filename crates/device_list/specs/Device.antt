@@ -1,5 +1,5 @@
 -- A device with its window, and what its driver and its host do to it.
-use Rattle.std.specs.Prelude.{◌≡◌, ℕ, Bool, Option, Some, None, List}
+use Rattle.std.specs.Prelude.{◌≡◌, ℕ, Bool, if◌then◌else◌, Option, Some, None, is_some, List}
 use Rattle.guest_memory.specs.Memory.{Memory}
 use Rattle.chain.specs.declared.budget.Budget.{Budget}
 use Rattle.chain.specs.declared.budget.Progress.{Progress}
@@ -15,7 +15,7 @@ use Rattle.device_list.specs.Card.{with_frame, with_link}
 use Rattle.block_device.specs.declared.operation.HostEvent.{HostEvent}
 use Rattle.hosted_disk.specs.Disk.{HostedDisk}
 use Rattle.hosted_disk.specs.Told.{DoesAsTold}
-use Rattle.device_list.specs.Model.{ModelState, Block, IsHeld, ModelServesTo, Serves, config_of, configured, features_of, fresh_model, kind_of, supplied_model, taken_of, with_card, with_terminal, without_sent}
+use Rattle.device_list.specs.Model.{ModelState, Block, IsHeld, ModelServesTo, Serves, config_of, configured, features_of, fresh_model, kind_of, sent_of, supplied_model, taken_of, with_card, with_terminal, without_sent}
 use Rattle.device_list.specs.Terminal.{with_size}
 
 -- a device: its window, and what stands behind it
@@ -104,9 +104,17 @@ received frame = with_card (with_frame frame)
 abbrev pub Receives : List ℕ → Memory → Memory → DeviceState → DeviceState → Type 0
 Receives frame = ServesAfter (received frame) 0
 
--- The host takes what the driver sent: the device then serves its transmit queue, since it has room.
+-- whether more waits behind what the host takes of it
+abbrev pub has_more_sent : DeviceState → Bool
+has_more_sent d = is_some (sent_of (without_sent d.model))
+
+-- the queue for which there is room once the host took that: the transmit queue, where nothing more waits
+abbrev pub freed_by : DeviceState → Option ℕ
+freed_by d = if has_more_sent d then None else Some 1
+
+-- The host takes what the driver sent. Where nothing more waits, the device then serves its transmit queue.
 abbrev pub TakesSent : Memory → Memory → DeviceState → DeviceState → Type 0
-TakesSent = ServesAfter without_sent 1
+TakesSent m m' d d' = ServesNotified (freed_by d) m m' (with_model without_sent d) d'
 
 -- The link of a card goes up or down: its configuration changed (5.1.4).
 abbrev pub linked : Bool → DeviceState → DeviceState

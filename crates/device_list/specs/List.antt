@@ -17,7 +17,7 @@ use Rattle.device_list.specs.declared.spec.DeviceSpec.TheVariants as spec
 use Rattle.block_device.specs.declared.device.BlockDevice.{BlockDevice}
 use Rattle.block_device.specs.declared.extent.Extent.{Extent}
 use Rattle.device_list.specs.Card.{Card}
-use Rattle.device_list.specs.Device.{DeviceServesTo, DeviceState, IsSoundDevice, notified_by}
+use Rattle.device_list.specs.Device.{DeviceServesTo, DeviceState, IsSoundDevice, has_more_sent, notified_by}
 use Rattle.hosted_disk.specs.Disk.{HostedDisk}
 use Rattle.device_list.specs.Model.{card_of, disk_of, has_bad_disk, has_bad_mtu, image_of, is_at_work, is_starving, must_wait, outgoing_of, terminal_of}
 use Rattle.device_list.specs.Terminal.{Terminal}
@@ -72,6 +72,10 @@ outgoing_at n devices = option_and_then (λ d. outgoing_of d.model) (slice_get d
 -- the same where it is all one why there is nothing to take
 abbrev pub sent_by : ℕ → List DeviceState → Option (List ℕ)
 sent_by n devices = option_and_then (λ waits. waits) (outgoing_at n devices)
+
+-- whether more waits behind what the host takes of the device of this number
+abbrev pub has_more_sent_at : ℕ → List DeviceState → Bool
+has_more_sent_at n devices = option_map_or has_more_sent (slice_get devices n) false
 
 -- the disk of this number that the host serves, if there is one
 abbrev pub disk_at : ℕ → List DeviceState → Option HostedDisk

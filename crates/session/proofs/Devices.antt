@@ -11,7 +11,7 @@ use Rattle.device_list.specs.declared.refusal.ReceiveRefusal.{ReceiveRefusal}
 use Rattle.device_list.specs.declared.refusal.ReceiveRefusal.TheVariants.{Frame}
 use Rattle.device_list.specs.Card.{Card, receive_refusal}
 use Rattle.device_list.specs.Device.{DeviceState, supply_taken}
-use Rattle.device_list.specs.List.{card_at, disk_at, outgoing_at, sent_by, notified_at, terminal_at, waits_at}
+use Rattle.device_list.specs.List.{card_at, disk_at, has_more_sent_at, outgoing_at, sent_by, notified_at, terminal_at, waits_at}
 use Rattle.device_list.specs.Terminal.{Terminal}
 use Rattle.hosted_disk.specs.Disk.{HostedDisk}
 use Rattle.hosted_disk.specs.Told.{has_effect}
@@ -549,11 +549,13 @@ none_received : (A : Type 0) (n : ℕ) (frame : List ℕ) (why : Option ReceiveR
 none_received A n frame None none = absurd (cc (none))
 none_received A n frame (Some why) none = refl
 
-none_dropped : (A : Type 0) (n : ℕ) (found : Option (Option (List ℕ)))
+none_dropped : (A : Type 0) (n : ℕ) (more : Bool) (found : Option (Option (List ℕ)))
     → ◌≡◌ {A = Option (Reply A)} (option_map (λ sent. Took (length (unwrap_or sent []))) found) None
-    → option_map (λ sent. further_service n 1 (Some (length sent))) (option_and_then (λ sent. sent) found) ≡ None
-none_dropped A n None none = refl
-none_dropped A n (Some sent) none = absurd (cc (none))
+    → (if more then None
+    else option_map (λ sent. further_service n 1 (Some (length sent))) (option_and_then (λ sent. sent) found)) ≡ None
+none_dropped A n true found none = refl
+none_dropped A n false None none = refl
+none_dropped A n false (Some sent) none = absurd (cc (none))
 
 pub unanswered_asks : {A : Type 0} (n : ℕ) (what : DeviceEvent A) (state : SlotState)
     → reply_at n what state ≡ None → device_asks n what state ≡ None
@@ -562,7 +564,8 @@ unanswered_asks {A} n (Write offset width value) state none =
 unanswered_asks {A} n (Supply bytes) state none = none_supplied A n bytes (slice_get state.devices n) none
 unanswered_asks {A} n (Receive frame) state none =
     none_received A n frame (receive_refusal frame (card_at n state.devices)) none
-unanswered_asks {A} n DropSent state none = none_dropped A n (outgoing_at n state.devices) none
+unanswered_asks {A} n DropSent state none =
+    none_dropped A n (has_more_sent_at n state.devices) (outgoing_at n state.devices) none
 unanswered_asks n what state none = refl
 
 -- and none does that waits

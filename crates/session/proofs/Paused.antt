@@ -20,7 +20,7 @@ use Rattle.block_device.specs.Tags.{taken_bits}
 use Rattle.hosted_disk.specs.Disk.{HostedDisk}
 use Rattle.device_list.specs.Card.{receive_refusal}
 use Rattle.device_list.specs.Device.{DeviceServesTo, DeviceState, device_written, supply_taken, taking}
-use Rattle.device_list.specs.List.{At, DevicesServeTo, IsNoneServed, card_at, changed_at, disk_at, sent_by}
+use Rattle.device_list.specs.List.{At, DevicesServeTo, IsNoneServed, card_at, changed_at, disk_at, has_more_sent_at, sent_by}
 use Rattle.device_list.specs.Model.{Block, Console, Entropy, Image, ModelServesTo, ModelState, Network, configured, disk_of, image_of}
 use Rattle.device_list.proofs.Pieces.{changed_there}
 use Rattle.board.specs.declared.event.DeviceEvent.{DeviceEvent}
@@ -162,11 +162,12 @@ pub frame_some : (A : Type 0) (old new : SessionState) (slot n : ℕ) (frame : L
 frame_some A old new slot n frame p = rw (frame_takes A old new slot n frame p) refl
 
 -- and what was sent is dropped whole
-dropped_by : (n : ℕ) (sent : Option (List ℕ)) (pause : Pause)
-    → option_map (λ sent. further_service n 1 (Some (length sent))) sent ≡ Some pause
+dropped_by : (n : ℕ) (more : Bool) (sent : Option (List ℕ)) (pause : Pause)
+    → (if more then None else option_map (λ sent. further_service n 1 (Some (length sent))) sent) ≡ Some pause
     → pause.taken ≡ Some (sent_count sent)
-dropped_by n None pause is = absurd (cc (is))
-dropped_by n (Some sent) pause is =
+dropped_by n true sent pause is = absurd (cc (is))
+dropped_by n false None pause is = absurd (cc (is))
+dropped_by n false (Some sent) pause is =
     ap (λ (p : Pause). p.taken) (sym (same_Some (further_service n 1 (Some (length sent))) pause is))
 
 -- what a driver sent, as its guest's slot is seen
@@ -183,7 +184,7 @@ drop_takes A old new slot n p =
     seen_sent old.slots old.image slot n
     ∙ ap (λ (o : Option SlotState). option_and_then (λ (state : SlotState). sent_by n state.devices) o) p.there in
     taken_of old new slot (Device n DropSent) p
-    ∙ dropped_by n (sent_by n p.state.devices) p.pause p.asks
+    ∙ dropped_by n (has_more_sent_at n p.state.devices) (sent_by n p.state.devices) p.pause p.asks
     ∙ ap (λ (o : Option (List ℕ)). Some (sent_count o)) (sym same)
 
 pub drop_some : (A : Type 0) (old new : SessionState) (slot n : ℕ) → Pauses {A = A} old new slot (Device n DropSent)

@@ -163,7 +163,7 @@ impl<A: Allocator + Copy> Slot<A> {
         Reply::Bytes(bytes)
     }
 
-    /// Drops what a device's driver sent. Its transmit queue is to be served, since there is room.
+    /// Drops what a device's driver sent. Its transmit queue is to be served, where nothing more waits.
     #[inline(always)]
     pub(super) fn drop_sent(&mut self, device: u8) -> Result<Asked, Reply<A>>
         ensures asks { IfOk result (λ asked. AsksAtDevice {A = A} device DeviceEvent.DropSent self.old self.new
@@ -173,6 +173,9 @@ impl<A: Allocator + Copy> Slot<A> {
         let Some(count) = self.devices.take_sent(device) else {
             return Err(self.nothing_dropped(device));
         };
+        if self.devices.has_sent(device) {
+            return Err(Reply::Took(count));
+        }
         Ok(Asked {
             queue: TRANSMITQ,
             taken: Some(count),
@@ -191,7 +194,8 @@ impl<A: Allocator + Copy> Slot<A> {
         }
     }
 
-    // Takes away what waits of a device's driver, and has it serve its transmit queue to the end. False where nothing waits.
+    // Takes away what waits of a device's driver, and has it serve its transmit queue to the end, where nothing more waits. False
+    // where nothing waited.
     fn drop_waiting(&mut self, device: u8) -> bool
         ensures found { result ≡ is_some (sent_by device self.old.devices) }
         ensures takes { OnTrue result (At TakesSent device self.old.memory self.new.memory self.old.devices self.new.devices) }
@@ -202,6 +206,9 @@ impl<A: Allocator + Copy> Slot<A> {
         let Some(_) = self.devices.take_sent(device) else {
             return false;
         };
+        if self.devices.has_sent(device) {
+            return true;
+        }
         let _ = self.serve_further(device, TRANSMITQ, Stage::First, Budget::UNLIMITED);
         true
     }

@@ -70,8 +70,8 @@ impl<A: Allocator> VirtioDevice<A> {
         }
     }
 
-    /// Takes that away, and answers how many bytes it has. The transmit queue is to be served next. There is no answer where nothing
-    /// waits: nothing has changed then.
+    /// Takes that away, and answers how many bytes it has. The transmit queue is to be served next, where nothing more waits. There is
+    /// no answer where nothing waits: nothing has changed then.
     pub(crate) fn take_sent(&mut self) -> Option<usize>
         ensures count { result ≡ option_map (λ sent. length sent) (sent_of self.old.model) }
         ensures taken { IsSome result → self.new ≡ with_model without_sent self.old }

@@ -68,7 +68,14 @@ impl<A: Allocator> DeviceList<A> {
         found.sent()
     }
 
-    /// Takes that away, and answers how many bytes it has. The transmit queue is to be served next, since there is room again. There
+    /// Whether there is any of it.
+    pub fn has_sent(&self, device: u8) -> bool
+        ensures { result ≡ is_some (sent_by device self.now) }
+    {
+        self.sent(device).is_some()
+    }
+
+    /// Takes that away, and answers how many bytes it has. The transmit queue is to be served next, where nothing more waits. There
     /// is no answer where nothing waits: nothing has changed then.
     pub fn take_sent(&mut self, device: u8) -> Option<usize>
         ensures count { result ≡ option_map (λ sent. length sent) (sent_by device self.old) }

@@ -163,8 +163,8 @@ impl<A: Allocator + Copy> Session<A> {
         handing(response, taken)
     }
 
-    /// Drops what `sent` tells, since it was copied, and answers how many bytes that was: none where nothing waits. The chains on
-    /// offer for which there is room then are served. Where more is to come, `go_on` goes on with that. It is refused for a bad
+    /// Drops what `sent` tells, since it was copied, and answers how many bytes that was: none where nothing waits. Once nothing more
+    /// waits, the chains on offer are served for which there is room then. Where more is to come, `go_on` goes on with that. It is refused for a bad
     /// slot, for a device that is no network card and no console, and while a service of the slot is paused.
     pub fn drop_sent(&mut self, slot: u8, device: u8) -> Result<Handed, Refusal>
         ensures call { IsToldCall {A = A} self.old slot (EventKind.Device device DeviceEvent.DropSent)
