@@ -8,7 +8,7 @@
 
 #include "kalyubos.h"
 
-enum { ROUNDS = 2000, COUNT = 1000, HEADER = 12, SHORT = 64, LONG = 1514, CARD = KALYUBOS_DEVICE };
+enum { ROUNDS = 2000, COUNT = 1024, BURST = 32, CHAINS = 64, HEADER = 12, SHORT = 64, LONG = 1514, CARD = KALYUBOS_DEVICE };
 
 static const uint64_t MEMORY = 0x80000000;
 
@@ -19,8 +19,8 @@ struct place {
 static const struct place RECEIVE = { 0x1000, 0x2000, 0x3000, 0x10000 }, TRANSMIT = { 0x5000, 0x6000, 0x7000, 0x20000 };
 
 static struct kalyubos board;
-static uint8_t frame[LONG], other[LONG], *memory;
-static size_t frame_len;
+static uint8_t frame[LONG], other[LONG], store[65536], *memory;
+static size_t frame_len, first, end;
 
 static void must(uint32_t answer)
 {
@@ -36,14 +36,14 @@ static void set(uint16_t offset, uint32_t value)
     must(kalyubos_write(&board, 0, CARD, offset, 4, value, &pending));
 }
 
-/* A queue of four, whose every chain is one buffer. */
+/* A queue whose every chain is one buffer. */
 static void bring_up_queue(uint32_t number, const struct place *place, uint16_t flags)
 {
     struct { uint64_t addr; uint32_t len; uint16_t flags, next; } it = { MEMORY + place->buffer, HEADER, flags, 0 };
     it.len += (uint32_t)(flags ? LONG : frame_len);
     memcpy(memory + place->descriptors, &it, sizeof it);
     set(0x30, number);
-    set(0x38, 4);
+    set(0x38, CHAINS);
     set(0x80, (uint32_t)MEMORY + place->descriptors);
     set(0x90, (uint32_t)MEMORY + place->available);
     set(0xa0, (uint32_t)MEMORY + place->used);
@@ -62,6 +62,7 @@ static void open_board(size_t len)
     must(kalyubos_create(&board, &config));
     must(kalyubos_memory(&board, 0, MEMORY, &memory, &memory_len));
     frame_len = len;
+    first = end = 0;
     set(0x70, 0);
     set(0x70, 1);
     set(0x70, 3);
@@ -73,43 +74,57 @@ static void open_board(size_t len)
     set(0x70, 15);
 }
 
-/* One chain more is on offer. */
-static void offer(const struct place *place)
+/* So many more chains are on offer. */
+static void offer(const struct place *place, int count)
 {
     uint16_t idx;
     memcpy(&idx, memory + place->available + 2, 2);
-    idx++;
+    idx = (uint16_t)(idx + count);
     memcpy(memory + place->available + 2, &idx, 2);
 }
 
-/* The driver sends a frame, and the host takes it. */
-static void out(void)
+/* The driver sends so many frames with one notification, and the host takes each. */
+static void out(int count)
 {
     size_t len;
-    offer(&TRANSMIT);
+    offer(&TRANSMIT, count);
     set(0x50, 1);
-    must(kalyubos_take_frame(&board, 0, CARD, frame, LONG, &len));
-    if (len != frame_len)
-        must(KALYUBOS_BAD_SLOT);
+    for (int i = 0; i < count; i++) {
+        must(kalyubos_take_frame(&board, 0, CARD, frame, LONG, &len));
+        if (len != frame_len)
+            must(KALYUBOS_BAD_SLOT);
+    }
 }
 
-/* The host hands a frame to a driver with a chain for it. */
-static void in(void)
+/* The driver offers so many chains, and the host hands in a frame for each. */
+static void in(int count)
 {
     bool taken;
-    offer(&RECEIVE);
-    must(kalyubos_receive(&board, 0, CARD, frame, frame_len, &taken));
-    if (!taken)
-        must(KALYUBOS_BAD_SLOT);
+    offer(&RECEIVE, count);
+    for (int i = 0; i < count; i++) {
+        must(kalyubos_receive(&board, 0, CARD, frame, frame_len, &taken));
+        if (!taken)
+            must(KALYUBOS_BAD_SLOT);
+    }
 }
 
 /* The like of it without a board. The compiler can't see what the copies are for. */
 static void *(*volatile copy)(void *, const void *, size_t) = memcpy;
 
-static void copy_twice(void)
+/* The place of a store's next frame, all in turn. */
+static uint8_t *next(size_t *at)
 {
-    copy(frame, other, frame_len);
-    copy(other, frame, frame_len);
+    uint8_t *place = store + *at;
+    *at = *at + 2 * frame_len > sizeof store ? 0 : *at + frame_len;
+    return place;
+}
+
+static void copy_twice(int count)
+{
+    for (int i = 0; i < count; i++)
+        copy(next(&end), other, frame_len);
+    for (int i = 0; i < count; i++)
+        copy(frame, next(&first), frame_len);
 }
 
 static double now(void)
@@ -119,13 +134,14 @@ static double now(void)
     return (double)t.tv_sec * 1e9 + (double)t.tv_nsec;
 }
 
-static void time_of(const char *what, void (*work)(void))
+/* Prints what one frame takes of work that does so many at once. */
+static void time_of(const char *what, void (*work)(int), int count)
 {
     double best = 1e18;
     for (int round = 0; round < ROUNDS; round++) {
         double start = now();
-        for (int i = 0; i < COUNT; i++)
-            work();
+        for (int i = 0; i < COUNT / count; i++)
+            work(count);
         double one = (now() - start) / COUNT;
         best = one < best ? one : best;
     }
@@ -137,9 +153,12 @@ int main(void)
     const size_t lengths[] = { SHORT, LONG };
     for (size_t i = 0; i < sizeof lengths / sizeof *lengths; i++) {
         open_board(lengths[i]);
-        time_of("out: offered, notified, taken", out);
-        time_of("in: offered, handed in", in);
-        time_of("copied twice", copy_twice);
+        time_of("out: offered, notified, taken", out, 1);
+        time_of("out: 32 offered, notified, each taken", out, BURST);
+        time_of("in: offered, handed in", in, 1);
+        time_of("in: 32 offered, each handed in", in, BURST);
+        time_of("copied twice", copy_twice, 1);
+        time_of("32 copied twice", copy_twice, BURST);
         must(kalyubos_destroy(&board));
     }
     return 0;
