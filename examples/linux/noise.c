@@ -53,12 +53,13 @@ static void set(struct noise *noise, unsigned window, uint16_t offset, uint32_t 
         devices_serve(&noise->devices, noise->slot, noise->writes);
 }
 
-static void bring_up(struct noise *noise, unsigned window)
+/* Brings a window's queues up, split ones or, where `packing` is RING_PACKED (34) of the high word, packed ones. */
+static void bring_up(struct noise *noise, unsigned window, uint32_t packing)
 {
     set(noise, window, STATUS, 0);
     set(noise, window, STATUS, 3);
     set(noise, window, DRIVER_FEATURES_SEL, 1);
-    set(noise, window, DRIVER_FEATURES, 1 | (at_random(noise) & 4)); /* VERSION_1, and at times RING_PACKED */
+    set(noise, window, DRIVER_FEATURES, 1 | packing); /* VERSION_1 */
     set(noise, window, STATUS, 11);
     for (uint32_t queue = 0; queue < QUEUES; queue++) {
         uint32_t area = MEMORY_BASE + (window * QUEUES + queue) * AREA;
@@ -88,6 +89,29 @@ static void write_noise(struct noise *noise)
     memcpy(area + at_random(noise) % RINGS, &fields[2], 4);
 }
 
+static bool is_disk(unsigned window)
+{
+    return window == KALYUBOS_BLOCK || window >= BOARD_DEVICES;
+}
+
+/* A request that gets through where the disk isn't read-only: it writes one byte all over some sectors (5.2.6). */
+static void write_sectors(struct noise *noise, unsigned window)
+{
+    enum { HEADER = RINGS, DATA = HEADER + 0x10, SECTOR = 512, MOST = 8, PLACES = 64, NEXT = 1, WRITE = 2, OUT = 1 };
+    uint8_t *area = area_of(noise, window * QUEUES);
+    uint64_t place = MEMORY_BASE + window * QUEUES * AREA;
+    uint32_t len = (1 + at_random(noise) % MOST) * SECTOR;
+    struct { uint64_t addr; uint32_t len; uint16_t flags, next; } chain[] = {
+        { place + HEADER, 16, NEXT, 1 }, { place + DATA, len, NEXT, 2 }, { place + DATA + len, 1, WRITE, 0 }
+    };
+    bring_up(noise, window, 0);
+    memcpy(area, chain, sizeof chain);
+    memcpy(area + 0x1000, (uint16_t[]){ 0, 1, 0 }, 3 * sizeof(uint16_t));
+    memcpy(area + HEADER, (uint32_t[]){ OUT, 0, at_random(noise) % PLACES, 0 }, 4 * sizeof(uint32_t));
+    memset(area + DATA, 1 + at_random(noise) % 255, len);
+    set(noise, window, NOTIFY, 0);
+}
+
 /* Where there is a card its buffers are of ones: what it sends of them goes to all other guests. */
 void noise_open(struct noise *noise, uint8_t slot, unsigned windows)
 {
@@ -102,9 +126,11 @@ void noise_run(struct noise *noise, unsigned count)
     for (unsigned i = 0; i < count; i++) {
         unsigned window = at_random(noise) % noise->windows, what = at_random(noise) % 16;
         if (what == 0)
-            bring_up(noise, window);
+            bring_up(noise, window, at_random(noise) & 4);
         else if (what == 1)
             set(noise, window, at_random(noise) % REGISTERS / 4 * 4, at_random(noise));
+        else if (what == 2 && is_disk(window))
+            write_sectors(noise, window);
         else if (what < 12)
             write_noise(noise);
         else

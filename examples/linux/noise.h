@@ -1,4 +1,4 @@
-/* A guest that means ill: it brings its queues up and writes noise into its rings and registers. */
+/* A guest that means ill: it brings its queues up, and writes noise into its rings and registers and over its disks. */
 #ifndef NOISE_H
 #define NOISE_H
 
