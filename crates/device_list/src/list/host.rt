@@ -68,7 +68,7 @@ impl<A: Allocator> DeviceList<A> {
         found.sent()
     }
 
-    /// Whether there is any of it.
+    /// Whether `sent` tells anything.
     pub fn has_sent(&self, device: u8) -> bool
         ensures { result ≡ is_some (sent_by device self.now) }
     {
