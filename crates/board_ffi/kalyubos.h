@@ -385,15 +385,16 @@ uint32_t kalyubos_go_on(struct kalyubos *board, uint8_t slot, struct kalyubos_pe
 /*
  * The following six calls are for a disk that the host serves: with the `window` KALYUBOS_BLOCK for the slot's own disk,
  * and from KALYUBOS_DEVICE on for the further device whose window it is. BAD_WINDOW where that isn't one. `pending` tells
- * what then waits of the slot's disk and console; for a further disk kalyubos_device_pending tells the line.
+ * what then waits of the slot's disk and console; for a further disk kalyubos_device_pending tells the line. The last four are
+ * BUSY while a service of the slot is paused.
  *
  * This one tells which operations of the disk are in flight. Each has a tag, a number below the disk's `depth`: bit n of
  * `tags` is set where the operation of tag n is in flight. It is 0 for a slot whose disk is of the image.
  *
  * An operation keeps its tag until it is completed or dropped; then the tag is free for another. Several may begin with
  * one call, each with the lowest tag that is free then. The host remembers the tags that it has begun. After IO it asks
- * kalyubos_operation for each tag that is in flight and not begun, and begins it. It forgets a tag before it calls
- * kalyubos_completed, which may use it again.
+ * kalyubos_operation for each tag that is in flight and not begun, and begins it. It forgets a tag once kalyubos_completed has
+ * taken it, and before it asks again what is in flight: that call may have used the tag for another operation.
  */
 uint32_t kalyubos_in_flight(const struct kalyubos *board, uint8_t slot, uint8_t window, uint64_t *tags);
 
@@ -427,6 +428,10 @@ uint32_t kalyubos_operation(const struct kalyubos *board, uint8_t slot, uint8_t 
  * the tag is free, and the queue is looked at again, as after a notification, unless the disk is on hold: the answer is
  * IO where operations began with that, else DONE. `pending` is what then waits. IDLE where nothing is in flight with
  * this tag.
+ *
+ * BUSY while a service of the slot is paused, also one of its console: nothing changed, and the operation is in flight as before.
+ * The host keeps what it came to, and makes this call again once kalyubos_go_on has answered something else than MORE. Bytes
+ * that it moves by kalyubos_read_memory and kalyubos_write_memory wait for that too.
  *
  * In a window that asks for a reset (DEVICE_NEEDS_RESET) a completion only frees its tag: it writes nothing into the
  * guest's memory, and nothing begins. The answer is DONE.

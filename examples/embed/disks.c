@@ -75,8 +75,8 @@ static void complete(uint8_t window, uint8_t tag)
     if (operation.kind == KALYUBOS_IN || operation.kind == KALYUBOS_OUT)
         move(disks[window].bytes + operation.start, &operation, runs);
     printf("  disk %d: tag %d is done\n", window, tag);
-    disks[window].begun &= ~((uint64_t)1 << tag); /* before the call, which may use the tag again */
     uint32_t answer = kalyubos_completed(&board, 0, window, tag, false, &pending);
+    disks[window].begun &= ~((uint64_t)1 << tag); /* the call may have used the tag again; nothing pauses here, so it took this */
     if (answer == KALYUBOS_IO)
         begin(window);
     else

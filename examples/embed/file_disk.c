@@ -232,9 +232,17 @@ static bool has_ended(struct file_disk *disk, uint8_t tag, int32_t result, bool 
     return *failed;
 }
 
+/* Whether a service of the slot is paused. */
+static bool is_paused(const struct file_disk *disk)
+{
+    return kalyubos_read_memory(disk->board, disk->slot, 0, (uint8_t[1]){ 0 }, 0) == KALYUBOS_BUSY;
+}
+
 bool file_disk_go_on(struct file_disk *disk, uint8_t *tag, bool *failed)
 {
     int32_t result = -1;
+    if (is_paused(disk))
+        return false;
     bool ended = disk->refused != 0;
     if (ended) {
         *tag = (uint8_t)__builtin_ctzll(disk->refused);

@@ -74,8 +74,9 @@ void file_disk_close(struct file_disk *disk);
  * may be gathered until that is false. */
 bool file_disk_begin(struct file_disk *disk);
 
-/* Goes on where `ready` can be read: true once an operation has ended, to be completed with its tag and as `failed` says. Call
- * it until it is false: others may have ended too. */
+/* Goes on where `ready` can be read: true once an operation has ended, to be completed at once with its tag and as `failed` says.
+ * Call it until it is false: others may have ended too. While a service of the slot is paused, no byte of its memory may be moved
+ * and no operation completed: then it is false, and what ended waits. Call it again behind the last kalyubos_go_on. */
 bool file_disk_go_on(struct file_disk *disk, uint8_t *tag, bool *failed);
 
 #endif

@@ -14,8 +14,8 @@ impl Board {
     /// [`Device::Disk`](crate::Device::Disk)).
     ///
     /// An operation keeps its tag until it is completed or dropped; then the tag is free for another. A host remembers
-    /// those that it has begun, begins the others after each call that tells [`Pending::io`], and forgets a tag before it
-    /// completes it:
+    /// those that it has begun, begins the others after each call that tells [`Pending::io`], and forgets a tag once its
+    /// completion is taken:
     ///
     /// ```
     /// use kalyubos::{Board, Config, Error, Kind, Operation, Outcome, Slot, Tags, Window};
@@ -42,8 +42,13 @@ impl Board {
     ///     }
     /// }
     /// while let Some(tag) = begun.first() {
-    ///     begun.remove(tag);
-    ///     println!("{:?}", board.complete(0, Window::Block, tag, Outcome::Done)?);
+    ///     match board.complete(0, Window::Block, tag, Outcome::Done) {
+    ///         Err(Error::Busy) => println!("{:?}", board.go_on(0)?), // a service of the slot is paused: again behind its end
+    ///         told => {
+    ///             begun.remove(tag);
+    ///             println!("{:?}", told?);
+    ///         }
+    ///     }
     /// }
     /// # Ok::<(), Box<dyn std::error::Error>>(())
     /// ```
@@ -86,6 +91,10 @@ impl Board {
     /// Of [`Outcome::Done`] the bytes of an IN stand in the runs, those of an OUT are found by each later IN, and after
     /// a flush, or where the operation is `stable`, they are on the medium. In a window that asks for a reset a completion
     /// only frees its tag. [`Error::Idle`]: nothing was in flight with this tag.
+    ///
+    /// [`Error::Busy`]: a service of the slot is paused, also one of its console. The operation is in flight as before: keep its
+    /// outcome, and make this call again once [`go_on`](Board::go_on) tells no [`more`](Pending::more). Until then
+    /// [`read_memory`](Board::read_memory) and [`write_memory`](Board::write_memory) are busy too.
     pub fn complete(
         &mut self,
         slot: u8,

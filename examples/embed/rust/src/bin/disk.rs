@@ -148,8 +148,9 @@ impl Guest {
                 rest = behind;
             }
         }
-        self.begun.remove(order.tag);
+        // within a budget it may be busy: then the order is kept, and completed behind the pause
         let pending = self.board.complete(0, Window::Block, order.tag, outcome)?;
+        self.begun.remove(order.tag);
         self.take_in(pending)
     }
 
