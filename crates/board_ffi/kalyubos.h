@@ -354,7 +354,7 @@ uint32_t kalyubos_read(const struct kalyubos *board, uint8_t slot, uint8_t windo
  * NO_ROOM: what the console puts out next, a chain of its transmit queue or the byte of an emergency write, doesn't
  * fit behind what waits in the slot's outlet. The chains before it are served; it is still on offer, and nothing of it
  * is put out. Take the output and make the same write again, as long as it is answered NO_ROOM and there was output to
- * take. A driver that waits for its buffer doesn't notify again, and Linux's console spins for ever on it.
+ * take. With `pending.output` 0 it is longer than the whole outlet, and is never put out. A driver that waits for its buffer doesn't notify again, and Linux's console spins for ever on it.
  *
  * Of the window of a disk that the host serves: IO says that the write is done, and that operations began with it, one
  * at least; no other answer says so. BUSY: the write, to Status (0x070) or QueueReady (0x044), waits for all that is in
@@ -743,6 +743,8 @@ static inline struct kalyubos_guest_config kalyubos_guest_config(const struct ka
  * again. No word is read or written by this call or by kalyubos_guest_destroy. Until kalyubos_guest_destroy they stay mapped
  * where they are, and no two runs of any guests or boards share a word.
  *
+ * Choose `outlet` as for kalyubos_create: a chain that is longer is never let through.
+ *
  * A service serves no more than `chains` chains, and begins no further chain once those before it had `bytes` bytes. It
  * also stops where its driver put chains on offer sixteen times while it was served. What is left then is due: MORE.
  */
@@ -764,7 +766,8 @@ uint32_t kalyubos_guest_read(const struct kalyubos_guest *guest, uint8_t window,
  *    answers something else; other calls may stand in between, and none is refused for it. Operations may have begun.
  *    Until then a write, an input and what the host says of the disk are answered MORE where they would be DONE or IO.
  *  - NO_ROOM: what the console puts out next doesn't fit behind what waits. Take the output and make the same write again,
- *    as long as it is answered NO_ROOM and there was output to take.
+ *    as long as it is answered NO_ROOM and there was output to take. With `pending.output` 0 it is longer than the whole
+ *    outlet, and is never put out: its queue is due until the driver has reset the console. All else is served.
  *  - BUSY: the write, to Status (0x070) or QueueReady (0x044) of the block window, waits for all that is in flight of the
  *    disk. Make it again once all is completed or dropped.
  *  - BAD_WINDOW.
@@ -775,7 +778,8 @@ uint32_t kalyubos_guest_write(struct kalyubos_guest *guest, uint8_t window, uint
 
 /*
  * Serves each queue that is due, within the budget, and answers as kalyubos_guest_write does: MORE where one is due again.
- * NO_ROOM: take the output and make this call again. Operations may have begun after IO, MORE and NO_ROOM.
+ * NO_ROOM: take the output and make this call again, as long as there was output to take; with `pending.output` 0 it would
+ * never end. Operations may have begun after IO, MORE and NO_ROOM.
  */
 KALYUBOS_LOOK_AT_IT
 uint32_t kalyubos_guest_go_on(struct kalyubos_guest *guest, struct kalyubos_pending *pending);

@@ -414,6 +414,30 @@ static void read_a_long_line(void)
     printf("console: the buffers have \"%.38s\" and %" PRIu64 "\n", (char *)place(RAM + TYPED), get(RAM + TYPED + 38, 1));
 }
 
+/*
+ * A text of one byte more than the whole outlet: it is refused where no output waits, so the host asks no more, and the disk is served
+ * beside it. Its queue is due until its driver has reset the console.
+ */
+static void put_out_what_never_fits(void)
+{
+    enum { LONGER = 65 };
+    acknowledge(KALYUBOS_CONSOLE, "console");
+    describe(TRANSMIT_QUEUE, 0, RAM + LINE, LONGER, 0);
+    printf("%d bytes into %d: %s\n", LONGER, LONGER - 1, answer(offer(KALYUBOS_CONSOLE, 1, TRANSMIT_QUEUE)));
+    show_pending();
+    go_on();
+    put_request(0, FLUSH, 0);
+    describe(DISK_QUEUE, 0, RAM + HEADER, 16, NEXT);
+    describe(DISK_QUEUE, 1, RAM + REQUEST_STATUS, 1, WRITE);
+    printf("a flush meanwhile: %s\n", answer(offer(KALYUBOS_BLOCK, 0, DISK_QUEUE)));
+    show_in_flight();
+    complete(0);
+    show_used("disk", DISK_QUEUE, 1);
+    printf("the console is reset: %s\n", answer(kalyubos_guest_write(&guest, KALYUBOS_CONSOLE, STATUS, 4, 0, &pending)));
+    go_on();
+    acknowledge(KALYUBOS_BLOCK, "disk");
+}
+
 static void show_fault(void)
 {
     struct kalyubos_fault fault = { 0 };
@@ -515,6 +539,7 @@ int main(void)
     put_out_too_much();
     read_a_line();
     read_a_long_line();
+    put_out_what_never_fits();
     make_a_mistake();
     printf("nothing is due: %s\n", answer(kalyubos_guest_go_on(&guest, &pending)));
     printf("hold: %s\n", answer(kalyubos_guest_hold(&guest, &pending)));

@@ -236,7 +236,10 @@ impl RunningGuest {
     }
 
     /// Serves each queue that is due, up to the budget, and tells what then waits. [`Error::NoRoom`]: take the output and
-    /// make this call again.
+    /// make this call again, as long as there was output to take. With an [`output`](Pending::output) of 0 what the console puts
+    /// out next is longer than the whole outlet, and is never put out.
+    ///
+    /// A guest that refills its ring keeps a queue due: a thread that serves several guests makes this call once in each turn.
     pub fn go_on(&mut self) -> Result<Pending, Error> {
         self.told(|handle, told| unsafe { ffi::kalyubos_guest_go_on(handle, told) })
     }
