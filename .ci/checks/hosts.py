@@ -67,6 +67,12 @@ void begin(struct guest *guest, uint8_t tag);
 void set_line(uint8_t slot, uint8_t window, bool is_high);
 bool show_output(uint8_t slot);
 void repeat_later(struct guest *guest);
+struct running { struct kalyubos_guest guest; struct kalyubos_pending lines; bool is_due, has_exit, has_ended; };
+bool take_output(struct running *guest);
+void begin_asked(struct running *guest);
+void set_lines(struct running *guest);
+void take_exit(struct running *guest);
+void complete_one(struct running *guest);
 """
 
 
@@ -205,7 +211,7 @@ def racing():
     """The hosts of examples/embed for guests that run on, and the program of these over KVM: that they compile without a warning."""
     if not shutil.which(COMPILER):
         return True, [f"no {COMPILER} to compile them with"]
-    sources = [EMBED / name for name in ("racing.c", "racing_threads.c", "racing_host.c", "racing_accesses.c", "kvm-racing.c")]
+    sources = [EMBED / name for name in ("racing.c", "racing_threads.c", "racing_host.c", "racing_accesses.c", "kvm-racing.c", "turns.c")]
     with tempfile.TemporaryDirectory() as folder:
         wrong = [line for source in sources for line in compiled(f"{folder}/{source.stem}.o", [source, "-c", "-pthread"])]
         built, said = script(EMBED / "racing-build", f"{folder}/program")
