@@ -1,6 +1,6 @@
 # The commands of the README, the library, its installing and its packages, the measurements, tries from outside, the hosts of the
 # library, and the suite. The first sentence above a target is its line in make help.
-.PHONY: check unproved unproved-program unproved-fast run prove show vshow look-test look-picture show-check test help library install uninstall dist deb dist-check bench fuzz broken trouble stops embed linux linux-test linux-picture stress doors peer mutants matrix
+.PHONY: check unproved unproved-program unproved-fast unproved-fast-program run prove show vshow look-test look-picture show-check test help library install uninstall dist deb dist-check bench fuzz broken trouble stops embed linux linux-test linux-picture stress doors peer mutants matrix
 
 TRACE ?= examples/two-guests.trace
 IMAGE ?=
@@ -63,7 +63,11 @@ unproved: unproved-program
 unproved-program:
 	@packaging/unproved vreplay
 
-unproved-fast:
+# The same, which the compiler optimizes more.
+unproved-fast: unproved-fast-program
+	@packaging/unproved --fast board_ffi
+
+unproved-fast-program:
 	@packaging/unproved --fast vreplay
 
 # The gate: every proof, the must-fail edits, the programs and the scenarios. It shows how far it is.
@@ -107,7 +111,7 @@ dist-check:
 	@packaging/release check --judge
 
 # Measures the built program over generated traces.
-bench: $(if $(UNPROVED),unproved-fast)
+bench: $(if $(UNPROVED),unproved-fast-program)
 	@bench/run --program "$(PROGRAM)"
 
 # Replays N traces of hostile and sane guests on the built program, from the seed FROM on.

@@ -38,7 +38,7 @@ def in_one_process():
             said += lines if not good else lines[:1]
             if not good:
                 return False, said
-    return True, [f"over an image {said[0]}; with the host's disks {said[1]}"]
+    return True, [f"over an image {said[0]}; with the host's disks {said[1].replace(' differ', ' differ as HOSTED.md says')}"]
 
 
 def fuzzed():
