@@ -191,7 +191,7 @@ static void open_board(uint8_t guests, bool is_hosted)
             .size = sizeof *slots, .regions = { { MEMORY, 0x100000 } }, .count = i + 1 == guests ? SECTORS : 0,
             .cols = 80, .rows = 25, .outlet = OUTLET, .hosted = is_hosted,
         };
-    struct kalyubos_config config = kalyubos_config(slots, guests);
+    struct kalyubos_config config = kalyubos_config_of(slots, guests);
     config.image = image;
     config.image_len = is_hosted ? 0 : sizeof image;
     must(kalyubos_create(&board, &config));

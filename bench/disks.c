@@ -144,7 +144,7 @@ static void power_on(struct guest *guest, const char *path, uint32_t block, uint
         .size = sizeof slot, .regions = { { MEMORY, (DATA + (uint64_t)guest->places * block + 0xfff) & ~(uint64_t)0xfff } },
         .count = (uint64_t)file.st_size / SECTOR, .read_only = true, .hosted = true, .depth = depth,
     };
-    struct kalyubos_config config = kalyubos_config(&slot, 1);
+    struct kalyubos_config config = kalyubos_config_of(&slot, 1);
     size_t len;
     need(kalyubos_create(&guest->board, &config) == KALYUBOS_DONE, "create");
     need(kalyubos_memory(&guest->board, 0, MEMORY, &guest->memory, &len) == KALYUBOS_DONE, "memory");

@@ -57,7 +57,7 @@ static void open_board(size_t len)
         .size = sizeof slot, .regions = { { MEMORY, 0x100000 } }, .cols = 80, .rows = 25, .hosted = true, .count = 8,
         .devices = { { .kind = KALYUBOS_NETWORK, .mtu = 1500, .mac = { 0x52, 0x54, 0, 0, 0, 1 } } },
     };
-    struct kalyubos_config config = kalyubos_config(&slot, 1);
+    struct kalyubos_config config = kalyubos_config_of(&slot, 1);
     size_t memory_len;
     must(kalyubos_create(&board, &config));
     must(kalyubos_memory(&board, 0, MEMORY, &memory, &memory_len));

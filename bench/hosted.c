@@ -79,7 +79,7 @@ static void power_on(struct guest *guest, bool is_hosted, uint32_t depth, uint8_
                                   { 0x80, at + TABLE }, { 0x90, at + AVAIL }, { 0xa0, at + 0x3000 }, { 0x44, 1 }, { 0x70, 15 } };
     struct kalyubos_slot slot = { .size = sizeof slot, .regions = { { MEMORY, MEMORY_LEN } }, .count = SECTORS,
                                   .hosted = is_hosted, .depth = depth };
-    struct kalyubos_config config = kalyubos_config(&slot, 1);
+    struct kalyubos_config config = kalyubos_config_of(&slot, 1);
     struct kalyubos_loan loan = { bytes, MEMORY_LEN };
     struct kalyubos_pending pending;
     size_t len;

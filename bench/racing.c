@@ -85,7 +85,7 @@ static void create(struct way *way)
         struct kalyubos_guest_config config = { .size = sizeof config, .slot = &slot, .words = &words, .words_len = 1 };
         need(kalyubos_guest_create(&way->guest, &config) == KALYUBOS_DONE, "a guest");
     } else {
-        struct kalyubos_config config = kalyubos_config(&slot, 1);
+        struct kalyubos_config config = kalyubos_config_of(&slot, 1);
         struct kalyubos_loan loan = { (uint8_t *)way->words, MEMORY_LEN };
         config.loans = &loan;
         config.loans_len = 1;

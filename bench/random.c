@@ -161,7 +161,7 @@ static void open_guest(void)
                                   { 0x44, 1 }, { 0x70, 15 } };
     struct kalyubos_slot slot = { .size = sizeof slot, .regions = { { MEMORY, DATA + (uint64_t)depth * BLOCK } },
                                   .count = blocks * (BLOCK / SECTOR), .read_only = true, .hosted = true, .depth = depth };
-    struct kalyubos_config config = kalyubos_config(&slot, 1);
+    struct kalyubos_config config = kalyubos_config_of(&slot, 1);
     size_t len;
     need(kalyubos_create(&board, &config) == KALYUBOS_DONE, "create");
     need(kalyubos_memory(&board, 0, MEMORY, &memory, &len) == KALYUBOS_DONE, "memory");

@@ -86,7 +86,7 @@ static double now(void)
 static void make(bool hosted, uint32_t depth, uint32_t chains, uint64_t bytes)
 {
     struct kalyubos_slot slots[GUESTS];
-    struct kalyubos_config config = kalyubos_config(slots, GUESTS);
+    struct kalyubos_config config = kalyubos_config_of(slots, GUESTS);
     for (uint8_t i = 0; i < GUESTS; i++)
         slots[i] = (struct kalyubos_slot){
             .size = sizeof *slots, .regions = { { BASE, i ? 0x20000 : 0x20000 + LARGE } },

@@ -417,7 +417,7 @@ static void run_hosted_alone(struct seat *alone, struct file image)
     pthread_t threads[MOST_GUESTS];
     for (size_t i = 0; i < trace.guests_len; i++) {
         struct kalyubos_slot slot = slot_of(i, 0, true);
-        make(&boards[i], kalyubos_config(&slot, 1));
+        make(&boards[i], kalyubos_config_of(&slot, 1));
         alone[i] = seat_of(&boards[i], 0, i);
         give_disk(&alone[i], image);
     }

@@ -437,7 +437,7 @@ static void make_boards(struct kalyubos *boards, struct guest guests[][GUESTS])
         slots[i].hosted = true;
         slots[i].depth = 3;
     }
-    make(&boards[1], kalyubos_config(slots, GUESTS));
+    make(&boards[1], kalyubos_config_of(slots, GUESTS));
     for (uint8_t i = 0; i < 2 * GUESTS; i++) {
         struct guest *guest = &guests[i / GUESTS][i % GUESTS];
         size_t len;

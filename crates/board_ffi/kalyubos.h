@@ -266,7 +266,7 @@ struct kalyubos_loan {
     size_t len;
 };
 
-/* A board, as the host describes it: fill one in by kalyubos_config, then change what is to be otherwise. */
+/* A board, as the host describes it: fill one in by kalyubos_config_of, then change what is to be otherwise. */
 struct kalyubos_config {
     size_t size;                       /* sizeof(struct kalyubos_config) */
     const struct kalyubos_slot *slots; /* its guests */
@@ -281,7 +281,7 @@ struct kalyubos_config {
 };
 
 /* A config of these slots: no loans, no image, a cache of one sector, no limit. */
-static inline struct kalyubos_config kalyubos_config(const struct kalyubos_slot *slots, size_t slots_len)
+static inline struct kalyubos_config kalyubos_config_of(const struct kalyubos_slot *slots, size_t slots_len)
 {
     static const uint8_t no_image[1] = { 0 };
     static struct kalyubos_loan no_loans[1];
@@ -714,7 +714,7 @@ struct kalyubos_words {
     size_t len;
 };
 
-/* A guest that runs on, as the host describes it: fill one in by kalyubos_guest_config. */
+/* A guest that runs on, as the host describes it: fill one in by kalyubos_guest_config_of. */
 struct kalyubos_guest_config {
     size_t size;                      /* sizeof(struct kalyubos_guest_config) */
     const struct kalyubos_slot *slot; /* the guest: `hosted` is true, and it has no further device */
@@ -725,8 +725,8 @@ struct kalyubos_guest_config {
 };
 
 /* A config of this slot over these words, without a limit. */
-static inline struct kalyubos_guest_config kalyubos_guest_config(const struct kalyubos_slot *slot,
-                                                                 struct kalyubos_words *words, size_t words_len)
+static inline struct kalyubos_guest_config kalyubos_guest_config_of(const struct kalyubos_slot *slot,
+                                                                    struct kalyubos_words *words, size_t words_len)
 {
     struct kalyubos_guest_config config = { sizeof config, slot, words, words_len, 0, 0 };
     return config;

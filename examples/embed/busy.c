@@ -231,7 +231,7 @@ static void power_on(struct guest *guest)
         .size = sizeof slot, .regions = { { MEMORY, MEMORY_LEN } }, .count = SECTORS, .cols = 80, .rows = 25, .outlet = OUTLET,
         .hosted = true, .depth = DEPTH, .devices = { { .kind = KALYUBOS_DISK, .sectors = SECTORS, .depth = DEPTH } },
     };
-    struct kalyubos_config config = kalyubos_config(&slot, 1);
+    struct kalyubos_config config = kalyubos_config_of(&slot, 1);
     size_t len;
     config.chains = 1;
     need(kalyubos_create(&guest->board, &config) == KALYUBOS_DONE, "create");

@@ -193,7 +193,7 @@ static void check_hosted(void)
     };
     uint8_t before[SNAPSHOT];
     slots[0].hosted = slots[1].hosted = true;
-    make(&board, kalyubos_config(slots, 2));
+    make(&board, kalyubos_config_of(slots, 2));
     size_t len = saved(0, before);
     read_sectors(0, KALYUBOS_BLOCK, 3, true);
     is_counted(1, NOTHING, "the second guest did nothing");
@@ -213,7 +213,7 @@ static void check_further(void)
 {
     const struct kalyubos_device disk = { .kind = KALYUBOS_DISK, .sectors = 1, .depth = 1 };
     slots[0].devices[0] = slots[0].devices[1] = disk;
-    make(&board, kalyubos_config(slots, 1));
+    make(&board, kalyubos_config_of(slots, 1));
     read_sectors(0, KALYUBOS_DEVICE, 3, true);
     is_counted(0, (struct kalyubos_counters){ .notifies = 1, .chains = 3, .bytes_out = 3 * 16, .refusals = 3 },
                "a further disk's failures");

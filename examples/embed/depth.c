@@ -94,7 +94,7 @@ static void create(uint32_t its_depth)
     struct kalyubos_slot slot = {
         .size = sizeof slot, .regions = { { MEMORY, MEMORY_LEN } }, .count = SECTORS, .hosted = true, .depth = its_depth,
     };
-    struct kalyubos_config config = kalyubos_config(&slot, 1);
+    struct kalyubos_config config = kalyubos_config_of(&slot, 1);
     size_t len;
     depth = its_depth;
     need(kalyubos_create(&board, &config) == KALYUBOS_DONE, "create", 0);

@@ -204,7 +204,7 @@ static void unplug(void)
 int main(void)
 {
     struct kalyubos_slot slots[GUESTS];
-    struct kalyubos_config config = kalyubos_config(slots, GUESTS);
+    struct kalyubos_config config = kalyubos_config_of(slots, GUESTS);
     size_t len;
     need(kalyubos_version() == KALYUBOS_VERSION, "the library is of another version than the header");
     for (int i = 0; i < GUESTS; i++) {

@@ -244,7 +244,7 @@ static void power_on(struct guest *guest, unsigned number, bool threads)
         .size = sizeof slot, .regions = { { MEMORY, MEMORY_LEN } }, .count = DISK_LEN / SECTOR_LEN, .outlet = OUTLET,
         .hosted = true, .depth = DEPTH,
     };
-    struct kalyubos_config config = kalyubos_config(&slot, 1);
+    struct kalyubos_config config = kalyubos_config_of(&slot, 1);
     size_t len;
     guest->number = number;
     strcpy(guest->path, "/tmp/kalyubos-disk-XXXXXX");

@@ -331,7 +331,7 @@ int main(void)
                      { .kind = KALYUBOS_IMAGE_DISK, .start = LOG_START, .sectors = LOG_SECTORS, .identity = "LOG" },
                      { .kind = KALYUBOS_IMAGE_DISK, .start = CACHE_START, .sectors = CACHE_SECTORS, .identity = "CACHE" } },
     };
-    struct kalyubos_config config = kalyubos_config(&slot, 1);
+    struct kalyubos_config config = kalyubos_config_of(&slot, 1);
     size_t len;
     need(kalyubos_version() == KALYUBOS_VERSION, "the library is of another version than the header");
     strcpy((char *)image + SECTOR, "the system");

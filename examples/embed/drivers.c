@@ -553,7 +553,7 @@ static void run_together(uint64_t seed)
         slots[i] = SLOT;
         slots[i].depth = depth_of(GUESTS * seed + (uint64_t)i);
     }
-    make(&board, kalyubos_config(slots, GUESTS));
+    make(&board, kalyubos_config_of(slots, GUESTS));
     for (uint8_t i = 0; i < GUESTS; i++)
         power_on(&guests[i], &board, i, GUESTS * seed + i);
     for (unsigned left = GUESTS * TURNS; left != 0; left--) {
@@ -574,7 +574,7 @@ static void run_on_threads(uint64_t seed)
     for (int i = 0; i < GUESTS; i++) {
         struct kalyubos_slot slot = SLOT;
         slot.depth = depth_of(GUESTS * seed + (uint64_t)i);
-        make(&boards[i], kalyubos_config(&slot, 1));
+        make(&boards[i], kalyubos_config_of(&slot, 1));
         power_on(&guests[i], &boards[i], 0, GUESTS * seed + (uint64_t)i);
     }
     for (int i = 0; i < GUESTS; i++)

@@ -215,7 +215,7 @@ static void create(struct guest *guests, bool hosted)
         { .size = sizeof *slots, .regions = { { MEMORY, MEMORY_LEN } }, .start = 2, .count = 2, .cols = 80, .rows = 25,
           .outlet = OUTLET, .hosted = hosted, .depth = DEPTH, .identity = "second half" },
     };
-    struct kalyubos_config config = kalyubos_config(slots, GUESTS);
+    struct kalyubos_config config = kalyubos_config_of(slots, GUESTS);
     for (uint8_t slot = 0; slot < GUESTS; slot++) {
         guests[slot].slot = slot;
         strcpy((char *)image + slot * DISK_LEN, DISKS[slot]);

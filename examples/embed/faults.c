@@ -325,7 +325,7 @@ static void check_hosted(void)
     static const struct kalyubos_fault behind = { KALYUBOS_FAULT_INDEX, 0, QUEUE, 1 };
     struct kalyubos_slot hosted[2] = { slots[0], slots[1] };
     hosted[0].hosted = hosted[1].hosted = true;
-    make(&board, kalyubos_config(hosted, 2));
+    make(&board, kalyubos_config_of(hosted, 2));
     check_queue_0(1);
     read_sector(0);
     is_untold(0, "no fault came to what is in flight");
@@ -348,7 +348,7 @@ static void check_behind_flight(enum layout layout, struct kalyubos_fault told)
     struct kalyubos_slot hosted = slots[0];
     hosted.hosted = true;
     hosted.depth = 2;
-    make(&board, kalyubos_config(&hosted, 1));
+    make(&board, kalyubos_config_of(&hosted, 1));
     bring_up(0, KALYUBOS_BLOCK, 0, layout, false);
     store(0, DATA, header, sizeof header);
     put(layout, 0, TABLE, 0, (struct descriptor){ AT(DATA), 16, NEXT, 1 }, available);

@@ -569,7 +569,7 @@ int main(void)
                        { .kind = KALYUBOS_IMAGE_DISK, .start = SPARE - 1, .sectors = 1 } } },
         { .size = sizeof *slots, .regions = { { MEMORY, MEMORY_LEN } }, .outlet = 64 },
     };
-    struct kalyubos_config config = kalyubos_config(slots, 2);
+    struct kalyubos_config config = kalyubos_config_of(slots, 2);
     check_no_board();
     config.image = image;
     config.image_len = sizeof image;

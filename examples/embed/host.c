@@ -165,7 +165,7 @@ int main(void)
         .size = sizeof slot, .regions = { { MEMORY, MEMORY_LEN } }, .start = 0, .count = 2, .cols = 80, .rows = 25,
         .outlet = OUTLET, .identity = "a disk of two",
     };
-    struct kalyubos_config config = kalyubos_config(&slot, 1);
+    struct kalyubos_config config = kalyubos_config_of(&slot, 1);
     config.image = image;
     config.image_len = sizeof image;
     config.chains = CHAINS;

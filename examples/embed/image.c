@@ -49,7 +49,7 @@ static void serve_file(void)
     };
     size_t len;
     must(in_place_open(path, IMAGE_LEN));
-    struct kalyubos_config config = kalyubos_config(&slot, 1);
+    struct kalyubos_config config = kalyubos_config_of(&slot, 1);
     config.image = in_place_image();
     config.image_len = IMAGE_LEN;
     need(kalyubos_create(&board, &config) == KALYUBOS_DONE, "create");

@@ -626,7 +626,7 @@ static void create(void)
         { .size = sizeof *slots, .start = 2, .count = 2, .cols = 80, .rows = 25, .outlet = OUTLET, .hosted = hosted,
           .depth = DEPTH, .identity = "second half" },
     };
-    struct kalyubos_config config = kalyubos_config(slots, GUESTS);
+    struct kalyubos_config config = kalyubos_config_of(slots, GUESTS);
     struct kalyubos_loan loans[GUESTS * REGIONS];
     for (uint8_t slot = 0; slot < GUESTS; slot++) {
         memcpy(slots[slot].regions, MEMORY, sizeof MEMORY);

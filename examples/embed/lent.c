@@ -60,7 +60,7 @@ static struct kalyubos_slot slot(bool hosted)
 static uint32_t create(const struct kalyubos_slot *slots, size_t count, struct kalyubos_loan *loans, size_t loans_len)
 {
     static const uint8_t image[SECTORS * SECTOR_LEN];
-    struct kalyubos_config config = kalyubos_config(slots, count);
+    struct kalyubos_config config = kalyubos_config_of(slots, count);
     config.loans = loans;
     config.loans_len = loans_len;
     config.image = image;

@@ -159,7 +159,7 @@ int main(void)
           .count = SECTORS, .outlet = 8 },
     };
     need(kalyubos_version() == KALYUBOS_VERSION, "the library is of another version than the header");
-    struct kalyubos_config config = kalyubos_config(slots, GUESTS);
+    struct kalyubos_config config = kalyubos_config_of(slots, GUESTS);
     config.image = image;
     config.image_len = sizeof image;
     need(kalyubos_create(&board, &config) == KALYUBOS_DONE, "create");

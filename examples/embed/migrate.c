@@ -47,7 +47,7 @@ static void start(struct machine *machine, const char *name)
 {
     struct kalyubos_slot slot = { .size = sizeof slot, .regions = { { MEMORY, MEMORY_LEN } }, .count = SECTORS, .hosted = true,
                                   .depth = 1, .cols = 80, .rows = 25, .outlet = 256, .identity = "the guest's disk" };
-    struct kalyubos_config config = kalyubos_config(&slot, 1);
+    struct kalyubos_config config = kalyubos_config_of(&slot, 1);
     size_t len;
     *machine = (struct machine){ .name = name };
     must(kalyubos_create(&machine->board, &config), "create");

@@ -196,7 +196,7 @@ static void make(struct kalyubos *board, struct guest *guests, int first, int en
     static uint8_t image[IMAGE_LEN];
     struct kalyubos_slot slots[GUESTS];
     struct kalyubos_loan loans[GUESTS];
-    struct kalyubos_config config = kalyubos_config(slots, (size_t)(end - first));
+    struct kalyubos_config config = kalyubos_config_of(slots, (size_t)(end - first));
     size_t len;
     memset(image, '.', sizeof image);
     memset(lent, 0, sizeof lent);

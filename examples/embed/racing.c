@@ -462,7 +462,7 @@ static void make_a_mistake(void)
 static void try_config(const char *what, struct kalyubos_slot slot, size_t words_len)
 {
     struct kalyubos_words words[] = { { ram, slot.regions[0].len / 8 }, { high, slot.regions[1].len / 8 } };
-    printf("%s: %s\n", what, answer(create(kalyubos_guest_config(&slot, words, words_len))));
+    printf("%s: %s\n", what, answer(create(kalyubos_guest_config_of(&slot, words, words_len))));
     printf("  %s\n", words[0].words == ram ? "the words are the host's" : "the words were taken");
 }
 
@@ -511,7 +511,7 @@ static void refuse_memory(void)
     for (unsigned left = 0; number == KALYUBOS_NO_MEMORY; left++) {
         struct kalyubos_words words[] = { { ram, RAM_LEN / 8 }, { high, HIGH_LEN / 8 } };
         blocks_left = left;
-        number = create(kalyubos_guest_config(&slot, words, 2));
+        number = create(kalyubos_guest_config_of(&slot, words, 2));
         if (number == KALYUBOS_NO_MEMORY && (blocks > 0 || guest.guest != NULL))
             puts("a refused guest is kept");
     }
@@ -524,14 +524,14 @@ int main(void)
 {
     struct kalyubos_words words[] = { { ram, RAM_LEN / 8 }, { high, HIGH_LEN / 8 } };
     struct kalyubos_slot slot = described();
-    struct kalyubos_guest_config config = kalyubos_guest_config(&slot, words, 2);
+    struct kalyubos_guest_config config = kalyubos_guest_config_of(&slot, words, 2);
     uint32_t value = 0;
     config.chains = CHAINS;
     refuse();
     refuse_memory();
     printf("create: %s\n", answer(create(config)));
     printf("  the words are %s\n", words[0].words == NULL && words[1].len == 0 ? "taken" : "left");
-    printf("create again: %s\n", answer(create(kalyubos_guest_config(&slot, words, 2))));
+    printf("create again: %s\n", answer(create(kalyubos_guest_config_of(&slot, words, 2))));
     printf("window 2: %s\n", answer(kalyubos_guest_read(&guest, KALYUBOS_DEVICE, MAGIC, 4, &value)));
     write_a_sector();
     make_three_requests();

@@ -314,7 +314,7 @@ void racing_host_open(struct racing_host *host)
     make_memory(host);
     make_disk(host);
     struct kalyubos_words words[] = { words_at(host, LOW), words_at(host, HIGH) };
-    struct kalyubos_guest_config config = kalyubos_guest_config(&slot, words, 2);
+    struct kalyubos_guest_config config = kalyubos_guest_config_of(&slot, words, 2);
     config.chains = CHAINS;
     host->state = 0x94d049bb133111ebu * (host->control->seed + 1);
     need(host, pthread_mutex_init(&host->lock, NULL) == 0 && pthread_cond_init(&host->changed, NULL) == 0, "no lock", 0);

@@ -197,7 +197,7 @@ int main(void)
     make(&board, config);
     check_board(KALYUBOS_MORE);
     slot.hosted = true;
-    make(&board, kalyubos_config(&slot, 1));
+    make(&board, kalyubos_config_of(&slot, 1));
     check_board(KALYUBOS_IO);
     printf("saved: snapshots as they are written down, and each refusal, on both kinds of board\n");
     return 0;

@@ -40,7 +40,7 @@ void kalyubos_dealloc(void *at)
 struct kalyubos_config over_image(const struct kalyubos_slot *slots, size_t count, const uint8_t *image,
                                   size_t image_len)
 {
-    struct kalyubos_config config = kalyubos_config(slots, count);
+    struct kalyubos_config config = kalyubos_config_of(slots, count);
     config.image = image;
     config.image_len = image_len;
     return config;

@@ -285,7 +285,7 @@ static void offer(struct kalyubos *board, uint8_t slot, uint8_t window)
 
 static struct kalyubos_config over_image(size_t count)
 {
-    struct kalyubos_config config = kalyubos_config(slots, count);
+    struct kalyubos_config config = kalyubos_config_of(slots, count);
     config.image = image;
     config.image_len = sizeof image;
     return config;

@@ -29,7 +29,7 @@ static void must(bool holds, const char *what)
 static void make(struct kalyubos *board)
 {
     static const uint8_t image[1024];
-    struct kalyubos_config config = kalyubos_config(&SLOT, 1);
+    struct kalyubos_config config = kalyubos_config_of(&SLOT, 1);
     config.image = image;
     config.image_len = sizeof image;
     must(kalyubos_create(board, &config) == KALYUBOS_DONE, "create");

@@ -119,7 +119,7 @@ static void power_on(struct running *guest, uint32_t number)
         .hosted = true, .depth = 1, .runs = true,
     };
     struct kalyubos_words words = { (uint64_t *)guest->memory, REGION_LEN / 8 };
-    struct kalyubos_guest_config config = kalyubos_guest_config(&slot, &words, 1);
+    struct kalyubos_guest_config config = kalyubos_guest_config_of(&slot, &words, 1);
     config.chains = CHAINS;
     need(kalyubos_guest_create(&guest->guest, &config) == KALYUBOS_DONE, "create");
     guest->control.seed = number;

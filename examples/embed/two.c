@@ -47,7 +47,7 @@ static void need(bool holds, const char *what)
 int main(void)
 {
     struct kalyubos_slot slot = { .size = sizeof slot, .regions = { { 0, 0x1000 } }, .hosted = true };
-    struct kalyubos_config config = kalyubos_config(&slot, 1);
+    struct kalyubos_config config = kalyubos_config_of(&slot, 1);
     struct kalyubos one = { NULL }, other = { NULL };
     uint32_t magic = 0, others = 0;
     need(kalyubos_create(&one, &config) == KALYUBOS_DONE && live != 0, "a board");

@@ -70,7 +70,7 @@ static void make(enum kind kind)
                      { .kind = KALYUBOS_DISK, .sectors = SECTORS, .depth = 2 } },
     };
     struct kalyubos_loan loan = { memory, LEN };
-    struct kalyubos_config config = kalyubos_config(&slot, 1);
+    struct kalyubos_config config = kalyubos_config_of(&slot, 1);
     config.loans = &loan;
     config.loans_len = 1;
     config.chains = 1;

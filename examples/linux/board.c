@@ -146,7 +146,7 @@ static void open_disk(uint8_t slot, uint8_t disk)
 /* A board of one image, with the budget, or one whose disks the host serves. */
 static void create(const struct kalyubos_slot *slots, uint64_t sectors)
 {
-    struct kalyubos_config config = kalyubos_config(slots, settings.guests);
+    struct kalyubos_config config = kalyubos_config_of(slots, settings.guests);
     config.cache = settings.cache;
     if (!settings.hosted) {
         config.image = settings.image;

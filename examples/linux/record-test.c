@@ -137,7 +137,7 @@ static void begin(FILE *mistakes)
 static void use_image(FILE *mistakes)
 {
     static const uint8_t IMAGE[SECTORS * 512];
-    struct kalyubos_config config = kalyubos_config(&SLOT, 1);
+    struct kalyubos_config config = kalyubos_config_of(&SLOT, 1);
     config.image = IMAGE;
     config.image_len = sizeof IMAGE;
     must(record_create(&board, &config) == KALYUBOS_DONE, "create");
@@ -231,7 +231,7 @@ static void serve_disks(FILE *mistakes)
     slots[0].hosted = slots[1].hosted = true;
     slots[0].depth = 2;
     slots[1].regions[1] = (struct kalyubos_region){ BASE + 2 * LEN, 0x1000 };
-    struct kalyubos_config config = kalyubos_config(slots, 2);
+    struct kalyubos_config config = kalyubos_config_of(slots, 2);
     must(record_create(&board, &config) == KALYUBOS_DONE, "create");
     begin(mistakes);
     bring_up(KALYUBOS_BLOCK, 0, BASE + TABLE);

@@ -71,7 +71,7 @@ static uint32_t serve_disk(unsigned guest, unsigned window, uint32_t answer, con
 static const char *make(const struct setup *setup)
 {
     struct kalyubos_slot slots[MOST_SLOTS] = {0};
-    struct kalyubos_config config = kalyubos_config(slots, setup->guests_len);
+    struct kalyubos_config config = kalyubos_config_of(slots, setup->guests_len);
     if (setup->guests_len > MOST_SLOTS)
         return "TooManySlots";
     for (size_t i = 0; i < setup->guests_len; i++) {
