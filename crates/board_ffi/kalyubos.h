@@ -763,7 +763,8 @@ uint32_t kalyubos_guest_read(const struct kalyubos_guest *guest, uint8_t window,
  * these. `pending` is what then waits: set both lines by it, and take the output where there is some.
  *  - DONE. IO: done, and operations of the disk began.
  *  - MORE: done, and a queue is due, of which the driver may never notify again. Call kalyubos_guest_go_on, until it
- *    answers something else; other calls may stand in between, and none is refused for it. Operations may have begun.
+ *    answers something else; other calls may stand in between, and none is refused for it. A driver that refills its ring
+ *    keeps it due for ever: a thread with other work makes one such call in each turn. Operations may have begun.
  *    Until then a write, an input and what the host says of the disk are answered MORE where they would be DONE or IO.
  *  - NO_ROOM: what the console puts out next doesn't fit behind what waits. Take the output and make the same write again,
  *    as long as it is answered NO_ROOM and there was output to take. With `pending.output` 0 it is longer than the whole
