@@ -537,7 +537,8 @@ struct kalyubos_device_pending {
 
 /*
  * Tells what waits for a further device. Set its window's line by `interrupt` after each kalyubos_write to the window,
- * after each of the other calls for it, and where one was answered MORE after the last kalyubos_go_on.
+ * after each of the other calls for it, and where one was answered MORE after the last kalyubos_go_on. It touches the
+ * guest's memory; a kalyubos_read of InterruptStatus (0x060) tells `interrupt` too, and touches none.
  */
 uint32_t kalyubos_device_pending(const struct kalyubos *board, uint8_t slot, uint8_t window,
                                  struct kalyubos_device_pending *pending);
