@@ -24,11 +24,11 @@ MIB = 1 << 20
 
 def stories():
     yield from shown("pending input that is full", "at 4095 bytes, by hand", [the_last_byte_of_input()])
-    yield from shown("sectors of a read, and the used len", "1,024 to 65,536; bits 20 to 25",
+    yield from shown("sectors of a read, and the used len", "1,024 to 65,552; bits 20 to 25",
                      map(reads, KINDS.values()))
-    yield from shown("sectors of a write", "1,024 to 65,536", map(writes, KINDS.values()))
+    yield from shown("sectors of a write", "1,024 to 65,552", map(writes, KINDS.values()))
     yield from shown("sectors of 2, 3 and 32 segments together", "65,537 to 196,608", [zeroes()])
-    yield from shown("bytes put out in one service", "128 KiB and 1 MiB, and beside them", map(texts, KINDS.values()))
+    yield from shown("bytes put out in one service", "64 KiB, 128 KiB and 1 MiB, and beside them", map(texts, KINDS.values()))
     yield from shown("bytes of `mr` and `mw`", "1 MiB, and a whole memory", [whole_memory()])
     yield from shown("kept sectors", "255 to 300", map(kept, (255, 256, 257, 300)))
     yield from shown("kept sectors", "4,097, 65,536", map(many_kept, (4097, 65536)))
@@ -112,13 +112,13 @@ def large_disk(name, about):
 
 def reads(kind):
     """A mark stands at the last sector of each read: it is read, and nothing behind it."""
-    story = large_disk(named(kind, "reads_of_1024_to_65536_sectors"),
+    story = large_disk(named(kind, "reads_of_1024_to_65552_sectors"),
                        "Reads of 1,024 sectors and more: each byte of the used len counts, and the last sector is "
                        "there.")
     disk = Disk(story, kind)
-    counts = (1024, 1025, 2047, 2048, 4096, 8192, 16384, 32768, 65536)
+    counts = (1024, 1025, 2047, 2048, 4096, 8192, 16384, 32768, 65536, MANY)
     if kind.is_packed:
-        counts = (1023, 1025, 2047, 2049, 43691)
+        counts = (1023, 1025, 2047, 2049, 43691, 65537)
     for turn, count in enumerate(counts, 1):
         mark = number(0x5a00 + turn, 2)
         disk.writes(count - 1, mark + bytes(SECTOR - 2))
@@ -136,10 +136,10 @@ def reads(kind):
 
 def writes(kind):
     """A write's first and last sectors, and those at 1,023, 1,024 and 65,535, have marks; all others are zeros."""
-    story = large_disk(named(kind, "writes_of_1024_to_65536_sectors"),
+    story = large_disk(named(kind, "writes_of_1024_to_65552_sectors"),
                        "Writes of 1,024 sectors and more are written up to the last one, and no further.")
     disk = Disk(story, kind)
-    ranges = ((3, 1024), (3, 1025), (0, 2049), (16, 65535 if kind.is_packed else 65536))
+    ranges = ((3, 1024), (3, 1025), (0, 2049), (15, 65537)) if kind.is_packed else ((3, 1024), (3, 1025), (16, 65536), (0, MANY))
     for turn, (sector, count) in enumerate(ranges, 1):
         marks = {at: number(0x6000 + 256 * turn + at % 251, 2) for at in (0, 1023, 1024, 1025, count - 2, count - 1)
                  if at < count}
@@ -182,8 +182,8 @@ def zeroes():
 
 def texts(kind):
     """Buffers that lie over one another, so that a small memory has room for all; no byte is that of its neighbours."""
-    story = Story(named(kind, "texts_of_128_kib_and_more"),
-                  "128 KiB and more go out in one service, by one chain and by several.",
+    story = Story(named(kind, "texts_of_64_kib_and_more"),
+                  "64 KiB, 128 KiB and more go out in one service, by one chain and by several.",
                   [Slot(length=0x40000, identity=IDENTITY)])
     queue = kind(story, "c", 1, 256, areas=list(AREAS)).bring_up()
     content = bytes(at * 7 % 251 for at in range(0x8000))
@@ -192,14 +192,22 @@ def texts(kind):
     for chains in ([whole(3) + [Buffer(DATA, 0x7fff)]], [whole(4)], [whole(4) + [Buffer(DATA + 5, 1)]],
                    [whole(2), whole(2) + [Buffer(DATA + 9, 3)]],
                    [whole(30), whole(1), [Buffer(DATA + 1, 0x7fff)], [Buffer(DATA + 3, 3)]]):
-        output = b""
-        for chain in chains:
-            offer(queue, chain)
-            output += b"".join(content[one.address - DATA:one.address - DATA + one.length] for one in chain)
-        queue.notify(output=output)
-        queue.look_at_used(0,
-                           **({"wrote": False, "count": len(chains[-1])} if queue.is_packed else {"head": queue.head}))
+        put_out(queue, chains, content)
+    for chains in ([whole(1) + [Buffer(DATA, 0x7fff)]], [whole(2)], [[Buffer(DATA, 0x10000)]], [[Buffer(DATA + 0x7fff, 0x10001)]],
+                   [whole(1), [Buffer(DATA + 1, 0x7fff), Buffer(DATA, 1)]], [[Buffer(DATA, 0xffff)], [Buffer(DATA + 7, 1)], [Buffer(DATA + 8, 1)]],
+                   [[Buffer(DATA + at * 97 % 0x7f00, 256) for at in range(64)]] * 4):
+        put_out(queue, chains, content)
     return story
+
+
+def put_out(queue, chains, content):
+    """Chains that are served at once; behind the content lie zeros."""
+    output, behind = b"", content + bytes(0x10000)
+    for chain in chains:
+        offer(queue, chain)
+        output += b"".join(behind[one.address - DATA:one.address - DATA + one.length] for one in chain)
+    queue.notify(output=output)
+    queue.look_at_used(0, **({"wrote": False, "count": len(chains[-1])} if queue.is_packed else {"head": queue.head}))
 
 
 def offer(queue, chain):
