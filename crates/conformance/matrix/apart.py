@@ -75,12 +75,12 @@ def base_of(slot):
 
 
 def slots_of(count, base, name=identity, **more):
-    """Each has two sectors or three, and a size whose four bytes are its own."""
+    """Each has two sectors or three, and a size whose four bytes are its own. Where the host has some disks, the trace is an extended one."""
     sectors = [2 + slot % 2 for slot in range(count)]
     sizes = [number(0x01030509 * (slot + 1) % 2**32, 4) for slot in range(count)]
-    return [Wide(base(slot), LENGTH, sum(sectors[:slot]), sectors[slot], "ro" if pattern(slot) == 9 else "rw",
-                 int.from_bytes(sizes[slot][:2], "little"), int.from_bytes(sizes[slot][2:], "little"), name(slot),
-                 **{word: value(slot) for word, value in more.items()}) for slot in range(count)]
+    return [(Wide if more else Slot)(base(slot), LENGTH, sum(sectors[:slot]), sectors[slot], "ro" if pattern(slot) == 9 else "rw",
+                                     int.from_bytes(sizes[slot][:2], "little"), int.from_bytes(sizes[slot][2:], "little"), name(slot),
+                                     **{word: value(slot) for word, value in more.items()}) for slot in range(count)]
 
 
 def late_identity(slot):
@@ -231,7 +231,9 @@ REGISTERS = [(STATUS, 0), (STATUS, 0x80), (INTERRUPT_ACK, 1), (INTERRUPT_ACK, 2)
              (DRIVER_FEATURES, 0x1000), (0x038, 3), (QUEUE_READY, 0), (NOTIFY, 1), (0x080, 0x10000), (0x094, 0x1000), (0x0a4, 0x1000), (0x0ac, 0x1000)]
 DEEDS = [of_action(window, action) for window in "bc" for name, action in ACTIONS[window].items() if name.removeprefix("comes_up_without_") not in LEFT_OUT[::2]] \
     + [of_history(window, history) for window in "bc" for history in LIVES.values()] \
-    + [of_register(window, offset, value) for window in "bc" for offset, value in REGISTERS] + [is_restored, is_told] * 3
+    + [of_register(window, offset, value) for window in "bc" for offset, value in REGISTERS]
+# What a plain trace has no word for.
+OF_EXTENDED = (is_restored, is_told)
 random.Random(121).shuffle(DEEDS)
 
 
@@ -239,13 +241,14 @@ def by_turns(board, slots, rounds):
     """Each slot in turn shows what it has, and takes its next action."""
     def script(life):
         guests = [Asking(life, slot=slot) for slot in range(len(slots))]
+        deeds = [OF_EXTENDED[at % 2] if life.extended and at % 18 == 0 else deed for at, deed in enumerate(DEEDS)]
         for guest in guests:
             for window in "bc":
                 guest.bring_up(window, setup_of(guest.slot))
         for turn in range(rounds):
             for guest in guests[::1 if turn % 2 else -1]:
                 shows(guest)
-                DEEDS[(guest.slot * 7 + turn * 13) % len(DEEDS)](guest)
+                deeds[(guest.slot * 7 + turn * 13) % len(deeds)](guest)
         for guest in guests:
             shows(guest)
 
