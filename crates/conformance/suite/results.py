@@ -6,8 +6,8 @@ from typing import Optional
 from .difference import Difference
 from .scenarios import Scenario
 
-# So many scenarios are named behind one that differs alike.
-NAMED = 3
+# So many scenarios are named behind one that differs alike, and so many rules are quoted at most.
+NAMED, MOST = 3, 4
 
 
 @dataclasses.dataclass(eq=False)
@@ -53,12 +53,12 @@ def shown_rules():
 
 
 def rule_lines(scenario):
-    """What the scenario shows: the rules that name it, three at most, or else its own line of the list."""
+    """What the scenario shows: the rules that name it, four at most, or else what the list says of it beside its name."""
     named = shown_rules().get(scenario.name, [])
     if not named:
-        return [f"it shows: {scenario.about or scenario.name}"]
-    more = [f"and {len(named) - 3} more rules of RULES.md"] if len(named) > 3 else []
-    return [f"rule: {rule}" for rule in named[:3]] + more
+        return [f"it shows: {scenario.about}"] if scenario.about else []
+    more = [f"and {len(named) - MOST} more rules of RULES.md"] if len(named) > MOST else []
+    return [f"rule: {rule}" for rule in named[:MOST]] + more
 
 
 # --- for a reader

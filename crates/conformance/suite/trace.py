@@ -48,7 +48,7 @@ def bit_name(window, bit):
 EXTENDED = "kalyubos 1\n"
 
 # Every name that a scenario's features may have.
-BESIDE_BITS = {"guests", "extended", "hosted", "depth", "held", "devices", "disks", "consoles", "spare", "ro", "input", "resize", "size", "restore",
+BESIDE_BITS = {"guests", "extended", "regions", "hosted", "depth", "held", "devices", "disks", "consoles", "spare", "ro", "input", "resize", "size", "restore",
                "vendor", "offer", "fails", "calls"}
 NAMED = BESIDE_BITS | {feature for fields in FIELDS.values() for _, _, feature in fields} \
     | {bit_name(window, bit) for window in WINDOWS for bit in range(64)}
@@ -215,7 +215,7 @@ def features_of(text, replies):
     offered features are read; `vendor`, VendorID is; `resize`, `input` and `restore`, the host does that; `hosted`, it
     serves a disk; `depth`, several operations of one may be in flight; `held`, what is in flight is dropped, or a slot is held or released; `devices`,
     a slot has further devices; `disks` and `consoles`, some of these are; `spare`, a slot has spare sectors; `guests`, there are more than one; `ro`, a slot is read-only;
-    `extended`, the trace is of no version that a plain one has.
+    `extended`, the trace is of no version that a plain one has, and `regions`, a memory of it has more than one.
     """
     found = {"extended"} if text.startswith(EXTENDED) else set()
     slots = slots_of(text)
@@ -228,6 +228,8 @@ def features_of(text, replies):
         found.add("depth")
     if any("".join(fields[1:2]).startswith("image+") for fields in slots):
         found.add("spare")
+    if any("," in "".join(fields[:1]) for fields in slots):
+        found.add("regions")
     if any(fields[4:5] == ["ro"] for fields in slots):
         found.add("ro")
     windows = {}
