@@ -89,8 +89,32 @@ def packaged():
     return good, ["its scenarios are in the user's cache"] if good else (ran.stdout + ran.stderr).splitlines()[-5:]
 
 
+IN_PROCESS = TOP / "crates/conformance/in-process"
+# The devices to copy: how each is built, beside its name and the program that it becomes.
+TO_COPY = {"console.c": ["cc", "-std=c11", "-O2", "run.c", "trace.c"], "console.rs": ["rustc", "--edition", "2021", "-O"]}
+OF_OUTPUT = ["--adapter", "--standard", "--only", "output", "--without", "guests", "--without", "indirect_desc", "--without", "ring_packed"]
+
+
+def to_copy():
+    """The devices that one copies have fewer than 100 lines, and pass the scenarios that their heads name."""
+    good, wrong = [], []
+    for name, build in TO_COPY.items():
+        if not shutil.which(build[0]):
+            good.append(f"{name}: there is no {build[0]}")
+            continue
+        count = len((IN_PROCESS / name).read_text(encoding="utf-8").splitlines())
+        with tempfile.TemporaryDirectory() as folder:
+            device = pathlib.Path(folder, "device")
+            built = called(*build, name, "-o", device, cwd=IN_PROCESS)
+            ran = called(RUN_ON, *OF_OUTPUT, device) if built.returncode == 0 else built
+        counts = (ran.stdout.splitlines() or [""])[-1]
+        found = good if count < 100 and ran.returncode == 0 and " 0 differ, " in counts else wrong
+        found.append(f"{name}: {count} lines, {counts or ran.stderr[-300:]}")
+    return not wrong, wrong + good
+
+
 # The scenarios that tables make, and their pages, are made by the first check, so that no two others make them at once.
-AFTER = {name: ["matrix"] for name in ("links", "named", "words", "rules", "against", "no device", "reports", "packaged", "helps")}
+AFTER = {name: ["matrix"] for name in ("links", "named", "words", "rules", "against", "no device", "reports", "packaged", "to copy", "helps")}
 CHECKS = {
     "matrix": lambda: script(TOP / "crates/conformance/matrix/make"),
     "rules": lambda: script(TOP / "crates/conformance/check-rules"),
@@ -99,4 +123,5 @@ CHECKS = {
     "no device": no_device,
     "reports": reports,
     "packaged": packaged,
+    "to copy": to_copy,
 }
