@@ -8,7 +8,7 @@ use Rattle.chain.specs.declared.budget.Progress.{Progress}
 use Rattle.chain.specs.declared.budget.Progress.TheVariants.{More, Done}
 use Rattle.chain.specs.declared.segment.Buffer.{Buffer}
 use Rattle.chain.specs.Budget.{AreWithin, IsSpent, chains_of, left_after}
-use Rattle.chain.specs.Pieces.{EndsWithin, IsServiceWithin, Pauses}
+use Rattle.chain.specs.Pieces.{EndsWithin, IsInBudget, IsServiceWithin, Pauses}
 use Rattle.chain.specs.Service.{Device, Ending, Refused, Site, Spent, IsReady, open_site}
 use Rattle.chain.proofs.Pieces.{CourseAlike, EndsAlikeBy, course_alike, end_alike, opened_to_end}
 use Rattle.chain.proofs.Simulating.{DoesAs, ServedAs, moved, service_as}
@@ -79,7 +79,7 @@ module _ {S T : Type 0} (device : Device S) (other : Device T) (Alike : S → T 
         alike = e.way.alike;
         served = record {
           ends = e.way.ends;
-          within = subst (λ (chains : List (List Buffer)). AreWithin budget chains) (sym e.same) p.within;
+          within = subst (λ (chains : List (List Buffer)). IsInBudget budget ending chains) (sym e.same) p.within;
         };
       }
 

@@ -12,7 +12,7 @@ use Rattle.chain.specs.declared.fault.Fault.{Fault}
 use Rattle.chain.specs.Budget.{AreWithin, IsSpent, bytes_of, chains_of, left_after, less, less_chain}
 use Rattle.chain.specs.Buffers.{total_len}
 use Rattle.chain.specs.Pieces.{EndsWithin, IsServiceWithin, Pauses, RunsWithin}
-use Rattle.chain.specs.Service.{Entry, Kind, Device, Does, Ending, Spent, Faulted, Site, Served, IsEnding, ServesChain, after, stop, Course}
+use Rattle.chain.specs.Service.{Entry, Kind, Device, Does, Ending, Spent, Faulted, Refused, Site, Served, IsEnding, ServesChain, after, stop, Course}
 use Rattle.chain.proofs.Servicing.{both, ServesAll-push, service_from_fault}
 
 -- ---- what is left of a budget
@@ -21,7 +21,7 @@ less_none : (limit : Option ℕ) → less limit 0 ≡ limit
 less_none None = refl
 less_none (Some n) = let e : n - 0 ≡ n = omega arith in ap (λ m. Some m) e
 
-less_more : (limit : Option ℕ) (a b c : ℕ) → c ≡ a + b → less limit c ≡ less (less limit a) b
+pub less_more : (limit : Option ℕ) (a b c : ℕ) → c ≡ a + b → less limit c ≡ less (less limit a) b
 less_more None a b c e = refl
 less_more (Some n) a b c e = let f : n - c ≡ (n - a) - b = omega (arith, e) in ap (λ m. Some m) f
 
@@ -111,11 +111,11 @@ module _ {Ring State : Type 0} (kind : Kind Ring) (device : Device State) where
 
   -- the piece that has come so far ends here
   piece_ends : (budget left : Budget) (start at : Site Ring State) (ending : Ending)
-      → IsInPiece budget left start at → IsEnding kind device at ending
+      → IsInPiece budget left start at → IsEnding kind device at ending → (ending ≡ Refused → ¬ IsSpent left)
       → RunsWithin kind device budget start ending (stop kind device at ending)
-  piece_ends budget left start at ending p ends = record {
+  piece_ends budget left start at ending p ends refused = record {
     runs = record { chains = p.course.chains; at = at; serves = p.course.serves; ends = ends; stands = refl };
-    within = p.within;
+    within = record { each = p.within; refused = λ e. subst (λ l. ¬ IsSpent l) p.left_is (refused e) };
   }
 
   -- No chain is on offer, or none is wanted.
@@ -124,7 +124,7 @@ module _ {Ring State : Type 0} (kind : Kind Ring) (device : Device State) where
       → (device.takes s && kind.offers m ring) ≡ false → last ≡ ring
       → RunsWithin kind device budget start Spent (record { memory = m; ring = last; state = s })
   piece_runs_out budget left start m ring last s p none same =
-      rw same (piece_ends budget left start (record { memory = m; ring = ring; state = s }) Spent p none)
+      rw same (piece_ends budget left start (record { memory = m; ring = ring; state = s }) Spent p none (λ e. cc))
 
   -- The chain on offer has a fault.
   pub piece_runs_into : (budget left : Budget) (start : Site Ring State) (m : Memory) (ring last : Ring)
@@ -134,7 +134,7 @@ module _ {Ring State : Type 0} (kind : Kind Ring) (device : Device State) where
       → RunsWithin kind device budget start (Faulted fault) (record { memory = m; ring = last; state = s })
   piece_runs_into budget left start m ring last s fault p ready has same =
       rw same (piece_ends budget left start (record { memory = m; ring = ring; state = s })
-      (Faulted fault) p (ready, has))
+      (Faulted fault) p (ready, has) (λ e. cc))
 
   -- Nothing is left of the budget, and a chain is on offer.
   pub piece_pauses : (budget left : Budget) (start : Site Ring State) (m : Memory) (ring last : Ring)

@@ -5,12 +5,18 @@ use Rattle.std.specs.Prelude.{◌≡◌, ◌↔◌, Bool, IsTrue, None, List, []
 use Rattle.chain.specs.declared.budget.Budget.{Budget}
 use Rattle.chain.specs.declared.segment.Buffer.{Buffer}
 use Rattle.chain.specs.Budget.{AreWithin, IsSpent, chains_of, left_after}
-use Rattle.chain.specs.Service.{Entry, Kind, Device, Ending, Site, IsReady, Runs, open_site, close_site, IsService, Course}
+use Rattle.chain.specs.Service.{Entry, Kind, Device, Ending, Refused, Site, IsReady, Runs, open_site, close_site, IsService, Course}
 
 -- a pause: where the service stands, and the device's state as it goes on
 pub record Pause (Ring State : Type 0) : Type 0 where
   pub at : Site Ring State
   pub state : State
+
+-- The chains of a piece that ends so are within the budget. One that leaves a chain for want of memory hasn't spent it
+-- before: else it pauses there.
+pub record IsInBudget (budget : Budget) (ending : Ending) (chains : List (List Buffer)) : Type 0 where
+  pub each : AreWithin budget chains
+  pub refused : ending ≡ Refused → ¬ IsSpent (left_after budget chains)
 
 module _ {Ring State : Type 0} (kind : Kind Ring) (device : Device State) where
   -- A service that was opened and isn't closed: its ring met no fault, and chains were served up to here.
@@ -42,13 +48,13 @@ module _ {Ring State : Type 0} (kind : Kind Ring) (device : Device State) where
   pub record RunsWithin (budget : Budget) (start : Site Ring State) (ending : Ending)
       (last : Site Ring State) : Type 0 where
     pub runs : Runs kind device start ending last
-    pub within : AreWithin budget (chains_of runs.chains)
+    pub within : IsInBudget budget ending (chains_of runs.chains)
 
   -- A piece that goes to the end.
   pub record EndsWithin (budget : Budget) (now new : Site Ring State) (ending : Ending)
       (wanted : Bool) : Type 0 where
     pub ends : GoesToEnd now new ending wanted
-    pub within : AreWithin budget (chains_of ends.runs.chains)
+    pub within : IsInBudget budget ending (chains_of ends.runs.chains)
 
   -- A service whose first piece pauses.
   pub record BeginsWithin (budget : Budget) (old now : Site Ring State) : Type 0 where

@@ -1,5 +1,5 @@
 -- A service in its course, of any device: the chains so far, and what stays along them.
-use Rattle.std.proofs.Common.{◌≡◌, ℕ, Bool, true, false, Some, None, List, refl, ap, ◌∙◌}
+use Rattle.std.proofs.Common.{◌≡◌, ℕ, Bool, true, false, Some, None, List, refl, ap, subst, ◌∙◌}
 use Rattle.std.specs.Prelude.{◌&&◌}
 use Rattle.guest_memory.specs.Memory.{Memory, SameRange}
 use Rattle.guest_memory.proofs.Ranges.{same_trans}
@@ -101,17 +101,18 @@ module _ {State : Type 0} {device : Device State} {budget left : Budget} {start 
   -- the device leaves it on offer
   pub left_at : {E : Type 0} (Refuses : State → Memory → List Buffer → E → Type 0) (m' : Memory)
       (last : Queue) (t' : State) (buffers : List Buffer) (token : Token) (why : E)
-      → device.takes t ≡ true → queue_kind.offers m queue ≡ true
+      → ¬ IsSpent left → device.takes t ≡ true → queue_kind.offers m queue ≡ true
       → queue_kind.Offers m queue buffers (entry_of token) → IsTaken queue token → Good m buffers
       → Refuses t m buffers why → m' ≡ m → t' ≡ t → last ≡ queue
       → IsLeftAt device Refuses budget (site_at start first s) (site_at m' last t') buffers
       (record { token = token; why = why })
-  left_at {E} Refuses m' last t' buffers token why takes offers offered named good refuses unwritten
+  left_at {E} Refuses m' last t' buffers token why some takes offers offered named good refuses unwritten
       kept same =
       let here : IsLeftAt device Refuses budget (site_at start first s) (site_at m queue t) buffers
       (record { token = token; why = why }) = record {
         course = h.piece.course;
         within = h.piece.within;
+        unspent = subst (λ l. ¬ IsSpent l) h.piece.left_is some;
         ready = both (device.takes t) (queue_kind.offers m queue) takes offers;
         offered = offered;
         taken = named;

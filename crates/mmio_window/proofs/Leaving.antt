@@ -93,7 +93,7 @@ module _ {State : Type 0} (device : Device State) (stage : Stage) (budget : Budg
           };
           stands = refl;
         };
-        within = left.within;
+        within = record { each = left.within; refused = λ e. left.unspent };
       } in
       let ends : EndsAt stage device budget (site_at m queue s) (site_at m'' last s') Refused wanted =
       ends_at device budget stage m queue (opened_at stage m queue) s refl (site_at m'' last s') Refused

@@ -8,7 +8,7 @@ use Rattle.chain.specs.declared.budget.Progress.{Progress}
 use Rattle.chain.specs.declared.budget.Progress.TheVariants.{More, Done}
 use Rattle.chain.specs.declared.segment.Buffer.{Buffer}
 use Rattle.chain.specs.Budget.{AreWithin, IsSpent, chains_of, left_after}
-use Rattle.chain.specs.Pieces.{BeginsWithin, EndsWithin, IsServiceWithin, Pauses}
+use Rattle.chain.specs.Pieces.{BeginsWithin, EndsWithin, IsInBudget, IsServiceWithin, Pauses}
 use Rattle.chain.specs.Service.{Course, Device, Ending, IsService, ServesAll, Served, Site, open_site, stop}
 use Rattle.chain.proofs.Simulating.{DoesAs, ServedAlike, ServedAs, ending_as, moved, serves_as, service_as, stop_as, stop_state}
 use Rattle.mmio_window.specs.declared.queue.Queue.{Queue}
@@ -92,7 +92,7 @@ module _ {S T : Type 0} (device : Device S) (other : Device T) (seen : S → T)
             closed = ap at p.ends.closed;
             wanted_is = p.ends.wanted_is;
           };
-          within = subst (AreWithin budget) (sym served.same) p.within;
+          within = subst (IsInBudget budget ending) (sym served.same) p.within;
         }
 
     begins_seen : (old now : Site Queue S) → BeginsWithin queue_kind device budget old now

@@ -6,7 +6,7 @@ use Rattle.chain.specs.declared.budget.Budget.{Budget}
 use Rattle.chain.specs.declared.budget.Progress.{Progress}
 use Rattle.chain.specs.declared.budget.Progress.TheVariants.{More, Done}
 use Rattle.chain.specs.declared.segment.Buffer.{Buffer}
-use Rattle.chain.specs.Budget.{AreWithin, chains_of}
+use Rattle.chain.specs.Budget.{AreWithin, IsSpent, chains_of, left_after}
 use Rattle.chain.specs.Buffers.{Good}
 use Rattle.chain.specs.Pieces.{Pauses, RunsWithin}
 use Rattle.chain.specs.Service.{Device, Site, Course, IsReady}
@@ -49,14 +49,15 @@ abbrev pub TellsWhere : {State : Type 0} → Device State → Stage → Site Que
 TellsWhere device stage old new Open = ⊤
 TellsWhere device stage old new (Closed met wanted) = IfMetIn device stage old new met
 
--- Chains were served within the budget, and the one on offer has these buffers; the device leaves it, for a
--- reason that it has then.
+-- Chains were served within the budget and haven't spent it, and the one on offer has these buffers; the device leaves
+-- it, for a reason that it has then.
 pub record IsLeftAt {State E : Type 0} (device : Device State)
     (Refuses : State → Memory → List Buffer → E → Type 0) (budget : Budget) (start now : Site Queue State)
     (buffers : List Buffer)
     (refused : Refused E) : Type 0 where
   pub course : Course queue_kind device start now
   pub within : AreWithin budget (chains_of course.chains)
+  pub unspent : ¬ IsSpent (left_after budget (chains_of course.chains))
   pub ready : IsReady queue_kind device now
   pub offered : queue_kind.Offers now.memory now.ring buffers (entry_of refused.token)
   pub taken : IsTaken now.ring refused.token

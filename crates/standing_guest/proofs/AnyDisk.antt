@@ -2,8 +2,8 @@
 use Rattle.std.proofs.Common.{◌≡◌, inl, inr, ℕ, Bool, Option, Some, None, List, ap, refl}
 use Rattle.guest_memory.specs.Memory.{Memory}
 use Rattle.chain.specs.declared.fault.Fault.{Fault}
-use Rattle.chain.specs.Budget.{AreWithin, chains_of}
-use Rattle.chain.specs.Pieces.{EndsWithin, GoesToEnd, IsServiceWithin}
+use Rattle.chain.specs.Budget.{AreWithin, IsSpent, chains_of, left_after}
+use Rattle.chain.specs.Pieces.{EndsWithin, GoesToEnd, IsInBudget, IsServiceWithin}
 use Rattle.chain.specs.Service.{Course, Device, Ending, Given, IsService, Kind, Runs, Served, Site, open_site}
 use Rattle.sector_cache.specs.Disk.{Disk}
 use Rattle.mmio_window.specs.declared.queue.Queue.{Queue}
@@ -19,14 +19,21 @@ use Rattle.standing_guest.proofs.Simulating.{AnswersAlike, Simulates, all_too, m
 
 -- ---- what is done without a budget is done within an unlimited one
 
-all_within : {State : Type 0} (chains : List (Served State)) → AreWithin unlimited (chains_of chains)
-all_within chains n below (inl spent) = cc
-all_within chains n below (inr spent) = cc
+each_within : {State : Type 0} (chains : List (Served State)) → AreWithin unlimited (chains_of chains)
+each_within chains n below (inl spent) = cc
+each_within chains n below (inr spent) = cc
+
+some_left : {State : Type 0} (chains : List (Served State)) → ¬ IsSpent (left_after unlimited (chains_of chains))
+some_left chains (inl spent) = cc
+some_left chains (inr spent) = cc
+
+all_within : {State : Type 0} (ending : Ending) (chains : List (Served State)) → IsInBudget unlimited ending (chains_of chains)
+all_within ending chains = record { each = each_within chains; refused = λ e. some_left chains }
 
 module _ {Ring State : Type 0} (kind : Kind Ring) (device : Device State) (old new : Site Ring State) (ending : Ending)
     (wanted : Bool) where
   ends_within : GoesToEnd kind device old new ending wanted → EndsWithin kind device unlimited old new ending wanted
-  ends_within e = record { ends = e; within = all_within e.runs.chains }
+  ends_within e = record { ends = e; within = all_within ending e.runs.chains }
 
   service_within : IsService kind device old new ending wanted → IsServiceWithin kind device unlimited old new ending wanted
   service_within s = record {
@@ -35,7 +42,7 @@ module _ {Ring State : Type 0} (kind : Kind Ring) (device : Device State) (old n
         let runs : Runs kind device (open_site kind device old) ending s.last = rw opens at s.works in
         record {
           ends = record { last = s.last; runs = runs; closed = s.closed; wanted_is = s.wanted_is };
-          within = all_within runs.chains;
+          within = all_within ending runs.chains;
         };
   }
 
