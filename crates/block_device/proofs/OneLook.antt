@@ -10,8 +10,8 @@ use Rattle.chain.specs.declared.fault.Fault.{Fault}
 use Rattle.chain.specs.declared.segment.Buffer.{Buffer}
 use Rattle.chain.specs.declared.segment.Segment.{Segment}
 use Rattle.chain.specs.Bytes.{readable_of, writable_of}
-use Rattle.chain.specs.Service.{Ending, Entry, Faulted, Given, HasAtMostOneAnswer, IsEnding, Refused, Served, ServesAll, ServesChain, Site, Spent, Works, after, close_site, open_site}
-use Rattle.chain.proofs.Servicing.{Decides, both, one_decided_service}
+use Rattle.chain.specs.Service.{Decides, Ending, Entry, Faulted, Given, HasAtMostOneAnswer, IsEnding, Refused, Served, ServesAll, ServesChain, Site, Spent, Works, after, close_site, open_site}
+use Rattle.chain.proofs.Servicing.{both, one_decided_service}
 use Rattle.mmio_window.specs.declared.queue.Queue.{Queue}
 use Rattle.mmio_window.specs.declared.queue.Queue.TheVariants.{Split, Packed}
 use Rattle.mmio_window.specs.declared.queue.Token.{Token}

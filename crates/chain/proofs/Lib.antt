@@ -6,6 +6,7 @@ pub mod Holding
 pub mod Cutting
 pub mod Likewise
 pub mod Limits
+pub mod OnePiece
 pub mod Pieces
 pub mod Places
 pub mod Scattering

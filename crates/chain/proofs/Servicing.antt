@@ -4,13 +4,13 @@ use Rattle.std.specs.Prelude.{◌&&◌, IsTrue}
 use Rattle.guest_memory.specs.Memory.{Memory}
 use Rattle.chain.specs.declared.segment.Buffer.{Buffer}
 use Rattle.chain.specs.declared.fault.Fault.{Fault}
-use Rattle.chain.specs.Service.{Entry, Kind, Device, Given, Ending, Spent, Faulted, Refused, Site, Served, IsReady, ServesChain, after, ServesAll, IsEnding, stop, Runs, open_site, Works, close_site, IsService, IsRefusedService, HasAtMostOneChain, HasAtMostOneAnswer, IsExactUnless}
+use Rattle.chain.specs.Service.{Entry, Kind, Device, Given, Ending, Spent, Faulted, Refused, Site, Served, IsReady, ServesChain, after, ServesAll, IsEnding, stop, Runs, open_site, Works, close_site, IsService, IsRefusedService, HasAtMostOneChain, HasAtMostOneAnswer, Decides, IsExactUnless}
 
 pub both : (a b : Bool) → a ≡ true → b ≡ true → (a && b) ≡ true
 both a b p q = rw (p, q) refl
 
 -- two tests of the same
-same_answer : (a b : Bool) (P : Type 0) → IsTrue a ↔ P → IsTrue b ↔ P → a ≡ b
+pub same_answer : (a b : Bool) (P : Type 0) → IsTrue a ↔ P → IsTrue b ↔ P → a ≡ b
 same_answer true true P x y = refl
 same_answer true false P x y = sym (y.1 (x.0 refl))
 same_answer false true P x y = x.1 (y.0 refl)
@@ -82,11 +82,6 @@ module _ {Ring State : Type 0} (kind : Kind Ring) (device : Device State) where
       (subst (λ (f : Ending). IsService kind device old new f wanted) e s)).leaves in
       never _ _ _ left.lacks_memory
 
--- what a device serves it has memory for
-pub record Decides {State : Type 0} (device : Device State) : Type 0 where
-  pub never_both : (s : State) (readable : List ℕ) (w : ℕ) (g : Given State) → device.Gives s readable w g
-      → device.LacksMemory s readable w → ⊥
-
 module _ {Ring State : Type 0} (kind : Kind Ring) (device : Device State) (one_chain : HasAtMostOneChain kind)
     (one_answer : HasAtMostOneAnswer device) where
   -- that the ending is decided: where it is for want of memory, the device decides
@@ -94,7 +89,7 @@ module _ {Ring State : Type 0} (kind : Kind Ring) (device : Device State) (one_c
   IsDecided ending = ending ≡ Refused → Decides device
 
   -- a site that ends, which is decided, doesn't serve
-  ends_or_serves : (site : Site Ring State) (ending : Ending) (s : Served State) → IsDecided ending
+  pub ends_or_serves : (site : Site Ring State) (ending : Ending) (s : Served State) → IsDecided ending
       → IsEnding kind device site ending → ServesChain kind device site s → ⊥
   ends_or_serves site Spent s d e q = cc (e, q.ready)
   ends_or_serves site (Faulted f) s d e q =
@@ -105,7 +100,7 @@ module _ {Ring State : Type 0} (kind : Kind Ring) (device : Device State) (one_c
       (d refl).never_both site.state _ _ s.given q.gives (rw (← b) at e.lacks_memory)
 
   -- it ends in one way
-  ends_once : (site : Site Ring State) (e f : Ending) → IsEnding kind device site e
+  pub ends_once : (site : Site Ring State) (e f : Ending) → IsEnding kind device site e
       → IsEnding kind device site f → e ≡ f
   ends_once site Spent Spent p q = refl
   ends_once site Spent (Faulted g) p q = cc (p, q.0)
@@ -120,7 +115,7 @@ module _ {Ring State : Type 0} (kind : Kind Ring) (device : Device State) (one_c
       absurd (one_chain.not_both site.memory site.ring p.buffers p.entry f p.offered q.1)
 
   -- it serves one chain
-  serves_once : (site : Site Ring State) (s t : Served State) → ServesChain kind device site s
+  pub serves_once : (site : Site Ring State) (s t : Served State) → ServesChain kind device site s
       → ServesChain kind device site t → s ≡ t
   serves_once site s t p q =
       let b = one_chain.buffers site.memory site.ring s.buffers t.buffers s.entry t.entry

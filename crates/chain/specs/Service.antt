@@ -219,6 +219,11 @@ pub record HasAtMostOneAnswer {State : Type 0} (device : Device State) : Type 0 
   pub given : (s : State) (readable : List ℕ) (w : ℕ) (g h : Given State) → device.Gives s readable w g
       → device.Gives s readable w h → g ≡ h
 
+-- what a device serves it has memory for
+pub record Decides {State : Type 0} (device : Device State) : Type 0 where
+  pub never_both : (s : State) (readable : List ℕ) (w : ℕ) (g : Given State) → device.Gives s readable w g
+      → device.LacksMemory s readable w → ⊥
+
 -- The device is the exact one where the count of its failures stays, and that count never falls. Of chains
 -- that it leaves for want of memory this says nothing.
 pub record IsExactUnless {State : Type 0} (device exact : Device State) (count : State → ℕ) : Type 0 where

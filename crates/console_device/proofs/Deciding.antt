@@ -1,6 +1,6 @@
 -- Where a limit decides what an output takes, a transmit has one service.
 use Rattle.std.proofs.Common.{ℕ, Some, arith}
-use Rattle.chain.proofs.Servicing.{Decides}
+use Rattle.chain.specs.Service.{Decides}
 use Rattle.console_device.specs.Device.{transmit_within}
 
 pub within_decides : (limit : ℕ) → Decides (transmit_within (Some limit))

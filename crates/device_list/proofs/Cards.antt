@@ -5,8 +5,7 @@ use Rattle.std.proofs.lemmas.List.{drop_all}
 use Rattle.guest_memory.specs.Memory.{Memory}
 use Rattle.chain.specs.declared.budget.Budget.{Budget}
 use Rattle.chain.specs.declared.budget.Progress.TheVariants.{Done}
-use Rattle.chain.specs.Service.{Ending, Spent, Faulted, Refused}
-use Rattle.chain.proofs.Servicing.{Decides}
+use Rattle.chain.specs.Service.{Decides, Ending, Spent, Faulted, Refused}
 use Rattle.mmio_window.specs.declared.stage.Stage.{Stage}
 use Rattle.mmio_window.specs.Pieces.{CompletesAt}
 use Rattle.mmio_window.specs.Serving.{Notified}

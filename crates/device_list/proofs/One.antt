@@ -2,8 +2,8 @@
 use Rattle.std.proofs.Common.{◌≡◌, ℕ, zero, suc, Option, Some, None, List, sym, ◌∙◌, ap, ap₂, subst}
 use Rattle.std.specs.Prelude.{slice_set}
 use Rattle.guest_memory.specs.Memory.{Memory}
-use Rattle.chain.proofs.Servicing.{Decides, one_decided_service}
-use Rattle.chain.specs.Service.{Device, Ending, HasAtMostOneAnswer, Site}
+use Rattle.chain.proofs.Servicing.{one_decided_service}
+use Rattle.chain.specs.Service.{Decides, Device, Ending, HasAtMostOneAnswer, Site}
 use Rattle.mmio_window.specs.declared.queue.Queue.{Queue}
 use Rattle.mmio_window.specs.Queue.{queue_kind}
 use Rattle.mmio_window.specs.Serving.{IsNotified, NothingHappens, Notified}
