@@ -6,6 +6,7 @@ pub mod QueueKind
 pub mod ReadyLemmas
 pub mod Services
 pub mod OneEnd
+pub mod OnePiece
 pub mod Pieces
 pub mod PiecesExact
 pub mod Underway

@@ -150,3 +150,29 @@ abbrev pub EndsAt : {State : Type 0} → Stage → Device State → Budget → S
 EndsAt First device budget old new ending wanted =
     IsServiceWithin queue_kind device budget old new ending wanted
 EndsAt Next device budget old new ending wanted = EndsWithin queue_kind device budget old new ending wanted
+
+-- ---- what a piece comes to
+
+-- It pauses, or it ends so.
+abbrev pub PieceTo : {State : Type 0} → Stage → Device State → Budget → ℕ → Option Queue → Option Ending → Memory
+    → Memory → WindowState → WindowState → State → State → Type 0
+PieceTo stage device budget q queue None old new before after s s' =
+    ServesTo stage device budget q queue More old new before after s s'
+PieceTo stage device budget q queue (Some ending) old new before after s s' =
+    CompletesAt stage device budget q queue ending old new before after s s'
+
+-- two pieces come to the same, and leave the same
+pub record SamePiece {State : Type 0} (x y : Option Ending) (m n : Memory) (v w : WindowState)
+    (s t : State) : Type 0 where
+  pub how : x ≡ y
+  pub memory : m ≡ n
+  pub window : v ≡ w
+  pub state : s ≡ t
+
+-- From where it begins a piece of this device comes to one thing: it pauses, ends, or is refused.
+abbrev pub HasOnePiece : {State : Type 0} → Device State → Type 0
+HasOnePiece {State} device =
+    (stage : Stage) (budget : Budget) (q : ℕ) (queue : Option Queue) (x y : Option Ending) (old m n : Memory)
+    (before v w : WindowState) (s0 s t : State)
+    → PieceTo stage device budget q queue x old m before v s0 s
+    → PieceTo stage device budget q queue y old n before w s0 t → SamePiece x y m n v w s t

@@ -1,13 +1,16 @@
 //! Laws of the definitions. The bodies are empty: each contract is a theorem.
 
 ghost use Rattle.std.specs.Prelude.{◌≡◌, ℕ, ◌<◌, List, Option, None, Some, get_or, length, set};
-ghost use Rattle.chain.specs.Service.{Entry, HasAtMostOneChain, HasSomeChain};
+ghost use Rattle.chain.specs.Service.{Decides, Entry, HasAtMostOneAnswer, HasAtMostOneChain, HasSomeChain};
 ghost use Rattle.mmio_window.specs.declared.queue.Queue.{Queue};
 ghost use Rattle.mmio_window.specs.declared.queue.Token.{Token};
 ghost use Rattle.mmio_window.specs.Notifying.{NextPlaceIsIgnored, NotificationKeepsRegisters};
 ghost use Rattle.mmio_window.specs.Queue.{AreAhead, AreAll, IsAhead, IsTaken, ahead_of, entry_of, queue_kind};
+ghost use Rattle.mmio_window.specs.Pieces.{HasOnePiece};
 ghost use Rattle.mmio_window.specs.Ready.{GenerationStays, ReadyQueueOutlasts, ReadyQueueStays};
 ghost use Rattle.mmio_window.specs.Soundness.{ReadyQueueIsItsRing, ServingKeepsSound, SoundForTheRange};
+
+use crate::queue_handler::QueueHandler;
 
 /// A sound window stays sound while its device serves a queue of it, for memories of one range.
 pub fn serving_keeps_sound()
@@ -47,6 +50,13 @@ pub fn generation_stays()
 pub fn one_chain_or_fault_at_a_place()
     ensures at_most_one { HasAtMostOneChain queue_kind }
     ensures some { HasSomeChain queue_kind }
+{}
+
+/// A piece of a service comes to one thing, whatever its budget, of every handler's device that has at most one answer to a
+/// chain and that decides which it leaves on offer: it pauses, ends, or is refused, and leaves the same memory, window and
+/// state.
+pub fn a_piece_has_one_outcome<B, D: QueueHandler<B>>()
+    ensures { (setup : D.Setup) → HasAtMostOneAnswer (D.device setup) → Decides (D.device setup) → HasOnePiece (D.device setup) }
 {}
 
 /// In a window that negotiated NOTIFICATION_DATA a driver's next place changes nothing: two writes to QueueNotify
