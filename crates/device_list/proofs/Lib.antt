@@ -1,6 +1,7 @@
 pub mod Services
 pub mod Cards
 pub mod One
+pub mod OnePiece
 pub mod Joining
 pub mod Pieces
 pub mod Sound
