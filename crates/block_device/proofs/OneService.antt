@@ -25,19 +25,19 @@ pub record HasContents (disk : Disk) : Type 0 where
   pub is : disk.contents ≡ Some bytes
 
 -- a chain is served exactly, and the disk tells its bytes
-record GivesWithContents (device : BlockDevice) (disk : Disk) (readable : List ℕ) (w : ℕ)
+pub record GivesWithContents (device : BlockDevice) (disk : Disk) (readable : List ℕ) (w : ℕ)
     (given : Given Disk) : Type 0 where
-  contents : HasContents disk
-  gives : GivesBy (Completes device.identity) device disk readable w given
+  pub contents : HasContents disk
+  pub gives : GivesBy (Completes device.identity) device disk readable w given
 
-abbrev device_with_contents : BlockDevice → Device Disk
+abbrev pub device_with_contents : BlockDevice → Device Disk
 device_with_contents device = record {
   takes = λ disk. true;
   Gives = λ disk readable w given. GivesWithContents device disk readable w given;
   LacksMemory = λ disk readable w. ⊥;
 }
 
-once_with_contents : (device : BlockDevice) → HasAtMostOneAnswer (device_with_contents device)
+pub once_with_contents : (device : BlockDevice) → HasAtMostOneAnswer (device_with_contents device)
 once_with_contents device = record {
   given = λ disk readable w g h p q. gives_once device disk p.contents.bytes readable w g h
       p.contents.is p.gives q.gives;
@@ -85,11 +85,11 @@ given_contents device disk readable (suc room) given h t =
     }
 
 -- the same disk, which tells its bytes
-record SameContents (s t : Disk) : Type 0 where
-  same : s ≡ t
-  contents : HasContents t
+pub record SameContents (s t : Disk) : Type 0 where
+  pub same : s ≡ t
+  pub contents : HasContents t
 
-does_with_contents : (device : BlockDevice)
+pub does_with_contents : (device : BlockDevice)
     → DoesAs (exact_device device) (device_with_contents device) SameContents
 does_with_contents device = record {
   takes = λ s t alike. refl;

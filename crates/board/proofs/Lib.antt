@@ -60,3 +60,4 @@ pub mod SameRange
 pub mod SavedDevices
 pub mod Untouched
 pub mod UntouchedSteps
+pub mod OnePiece

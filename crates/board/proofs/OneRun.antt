@@ -203,10 +203,10 @@ one_transmit out m queue a b e f v w x y =
     (same.site, same.ending, same.wanted)
 
 -- a slot with another memory, extent and block window
-abbrev with_block : SlotState → Memory → List ℕ → WindowState → SlotState
+abbrev pub with_block : SlotState → Memory → List ℕ → WindowState → SlotState
 with_block state memory extent block = record state { memory = memory; extent = extent; block = block }
 
-same_block : (state : SlotState) (m n : Memory) (x y : List ℕ) (v w : WindowState) → m ≡ n → x ≡ y → v ≡ w
+pub same_block : (state : SlotState) (m n : Memory) (x y : List ℕ) (v w : WindowState) → m ≡ n → x ≡ y → v ≡ w
     → with_block state m x v ≡ with_block state n y w
 same_block state m n x y v w p q r = rw (p, q, r) refl
 
@@ -226,10 +226,10 @@ block_once device old h k one other a b =
     one.state.block other.state.block end.memory (cc contents) end.window) ∙ sym b.is)
 
 -- a further disk over the image
-abbrev with_image : SlotState → Memory → List ℕ → List DeviceState → SlotState
+abbrev pub with_image : SlotState → Memory → List ℕ → List DeviceState → SlotState
 with_image state memory bytes devices = record state { memory = memory; spare_bytes = bytes; devices = devices }
 
-same_image : (state : SlotState) (m n : Memory) (x y : List ℕ) (v w : List DeviceState) → m ≡ n → x ≡ y → v ≡ w
+pub same_image : (state : SlotState) (m n : Memory) (x y : List ℕ) (v w : List DeviceState) → m ≡ n → x ≡ y → v ≡ w
     → with_image state m x v ≡ with_image state n y w
 same_image state m n x y v w p q r = rw (p, q, r) refl
 
@@ -264,11 +264,11 @@ image_once {A} n disk old h k one other a b =
     (slice_set old.devices n (record y.device { window = y.window })) end.memory spare devices ∙ sym y.is) ∙ sym b.is)
 
 -- a slot with another memory, console window and pending input
-abbrev with_console : SlotState → Memory → WindowState → List ℕ → SlotState
+abbrev pub with_console : SlotState → Memory → WindowState → List ℕ → SlotState
 with_console state memory console pending =
     record state { memory = memory; console = console; pending = pending }
 
-same_console : (state : SlotState) (m n : Memory) (v w : WindowState) (x y : List ℕ) → m ≡ n → v ≡ w → x ≡ y
+pub same_console : (state : SlotState) (m n : Memory) (v w : WindowState) (x y : List ℕ) → m ≡ n → v ≡ w → x ≡ y
     → with_console state m v x ≡ with_console state n w y
 same_console state m n v w x y p q r = rw (p, q, r) refl
 

@@ -189,3 +189,9 @@ DoesWithin {A} limit (InPlace what) budget old new waiting left turn =
     BeginsWithin {A = A} limit (event_in what) budget old new waiting left turn
 DoesWithin {A} limit (Resume pause) budget old new waiting left turn =
     GoesOnWithin limit pause budget old new waiting left turn
+
+-- two turns of a slot leave the same of it and of what waits of its output, and are answered or paused the same
+pub record SameTurn {A : Type 0} (new new' : SlotState) (left left' : List ℕ) (turn turn' : Turn A) : Type 0 where
+  pub state : new ≡ new'
+  pub waiting : left ≡ left'
+  pub answer : turn ≡ turn'

@@ -3,6 +3,7 @@
 ghost use Rattle.std.specs.Prelude.{◌⊎◌, ◌≡◌, ◌≢◌, ◌↔◌, ℕ, ◌+◌, ◌<◌, ◌≤◌, List, [], ◌∷◌, ◌++◌, None, Some, true, false, get_or, length, IfSome, IsSome};
 ghost use Rattle.std.specs.List.{slice_get};
 ghost use Rattle.guest_memory.specs.Memory.{Inside, Memory, SameRange};
+ghost use Rattle.chain.specs.declared.budget.Budget.{Budget};
 ghost use Rattle.chain.specs.Service.{Served, ServesAll, ServesChain, Site};
 ghost use Rattle.guest_memory.specs.Marks.{MarksWrites};
 ghost use Rattle.sector_cache.specs.Disk.{Disk};
@@ -12,6 +13,7 @@ ghost use Rattle.console_device.specs.Config.{emergency_write};
 ghost use Rattle.board.specs.declared.event.SlotWindow.{SlotWindow};
 ghost use Rattle.mmio_window.specs.declared.queue.Queue.{Queue};
 ghost use Rattle.mmio_window.specs.declared.register.Register.{Register};
+ghost use Rattle.mmio_window.specs.declared.stage.Stage.{Stage};
 ghost use Rattle.mmio_window.specs.Queue.{queue_kind};
 ghost use Rattle.mmio_window.specs.Registers.{register_at};
 ghost use Rattle.mmio_window.specs.Window.{queue_at};
@@ -28,6 +30,8 @@ ghost use Rattle.board.specs.declared.event.Event.{Event};
 ghost use Rattle.board.specs.declared.event.DeviceEvent.{DeviceEvent};
 ghost use Rattle.board.specs.declared.event.EventKind.{EventKind};
 ghost use Rattle.block_device.specs.declared.operation.HostEvent.{HostEvent};
+ghost use Rattle.board.specs.declared.pause.Pause.{Pause};
+ghost use Rattle.board.specs.declared.pause.Turn.{Turn};
 ghost use Rattle.board.specs.declared.reply.Reply.{Reply};
 ghost use Rattle.board.specs.declared.reply.Record.{Record};
 ghost use Rattle.board.specs.Durable.{IsLeftAsSeen, TouchesSlot};
@@ -48,14 +52,29 @@ ghost use Rattle.board.specs.Marking.{IsForDevices};
 ghost use Rattle.board.specs.Outcome.{Outcome};
 ghost use Rattle.board.specs.declared.saved.RestoreFault.{RestoreFault};
 ghost use Rattle.board.specs.Moving.{MovesTo, RanOnBoth};
+ghost use Rattle.board.specs.Pausing.{ComesTo};
 ghost use Rattle.board.specs.Saved.{IsCauseOf, snapshot_of};
 ghost use Rattle.board.specs.Slot.{BoardSlot, SlotState, KeepsBesideDisk, KeepsBesideFurtherDisk, KeepsBesideTransmit, state_of, whole_extent};
 ghost use Rattle.board.specs.Untouched.{NeedsNoMemory, touches_memory, world_over};
 ghost use Rattle.board.specs.World.{BoardState, World, KeepsBoard, MayGive, Step, identities_of, world_of};
-ghost use Rattle.board.specs.Within.{Seat, IsNextWithin};
+ghost use Rattle.board.specs.Within.{IsNextWithin, PieceWithin, SameTurn, Seat};
 
 use sector_cache::Image;
 use std::alloc::Allocator;
+
+/// A piece of a slot's service has one outcome, by what waits of its output, where no call of the image fails: it pauses or
+/// is answered, and leaves the same slot and the same output waiting.
+pub fn a_piece_of_a_slot_has_one_outcome<A: Allocator>()
+    ensures { (limit : ℕ) (pause : Pause) (stage : Stage) (budget : Budget) (old new other : SlotState)
+        (before after before2 after2 : Health) (waiting left left2 output output2 : List ℕ) (turn turn2 : Turn A) →
+        after.failures ≡ before.failures → after2.failures ≡ before2.failures →
+        left ≡ waiting ++ output → left2 ≡ waiting ++ output2 →
+        ComesTo pause stage budget old before after new output turn →
+        ComesTo pause stage budget old before2 after2 other output2 turn2 →
+        PieceWithin limit pause stage budget old new waiting left turn →
+        PieceWithin limit pause stage budget old other waiting left2 turn2 →
+        SameTurn new other left left2 turn turn2 }
+{}
 
 /// In every line of events a guest whose own events met no refusal sees what it would see alone.
 pub fn each_guest_is_alone<A: Allocator>()
