@@ -1,4 +1,4 @@
-//! A guest whose CPUs may run on, over a memory that stands still: each of its calls is one event of a slot of a board whose disk its
+//! A guest of racing_guest over a memory that nobody else writes: each of its calls is one event of a slot of a board whose disk its
 //! host serves. Only laws stand here.
 #![tactic(auto)]
 
