@@ -14,7 +14,8 @@
 
 #include "kalyubos.h"
 
-enum { SECTOR = 512, SECTORS = 8, SIZE = 8, CHAINS = 2, RAM_LEN = 0x10000, HIGH_LEN = 0x1000 };
+/* Both regions have one length, so that only what is found in them tells whose words are whose. */
+enum { SECTOR = 512, SECTORS = 8, SIZE = 8, CHAINS = 2, RAM_LEN = 0x10000, HIGH_LEN = 0x10000 };
 static const uint64_t RAM = 0x80000000, HIGH = 0x90000000;
 
 /* The queues' areas in RAM, 0x1000 apart from each other: a table, an available ring and a used ring (2.7). */
