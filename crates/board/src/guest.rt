@@ -160,9 +160,114 @@ impl<A: Allocator + Copy> Guest<A> {
         self.slot.answer(alloc, what, budget, cache, out)
     }
 
-    // Begins an event of a guest whose disk the host serves. The image has no part in it.
-    #[inline(never)]
+    // Begins an event of a guest whose disk the host serves. The image has no part in it. A write goes by its parts, so that nothing
+    // refers to the event: a caller who knows its kind need not store it.
+    #[inline(always)]
     fn begin_hosted<O: Outlet>(
+        &mut self,
+        alloc: A,
+        what: &EventKind<A>,
+        budget: Budget,
+        out: &mut O,
+    ) -> Turn<A>
+        requires hosted { IsSome self.old.host }
+        ensures serves { (image : List ℕ) (health : Health) →
+            sectors_of (state_of image self.old).extent ≡ self.old.extent.count →
+            ServesTurn (Begins what.now budget) (state_of image self.old) health health (state_of image self.new) result
+            (O.bytes out.old) (O.bytes out.new) }
+        ensures within { (image : List ℕ) (limit : ℕ) → O.limit out.old ≡ Some limit →
+            BeginsWithin limit what.now budget (state_of image self.old) (state_of image self.new)
+            (O.bytes out.old) (O.bytes out.new) result }
+        ensures limited { PausesByLimit budget result }
+        ensures limit { O.limit out.new ≡ O.limit out.old }
+        ensures place { KeepsPlace self.old self.new }
+        ensures disturbed { self.new.disturbed ≡ self.old.disturbed }
+        ensures there { result ≢ Turn.Answered Reply.BadSlot }
+        ensures bad_range { result ≡ Turn.Answered Reply.BadRange → self.new ≡ self.old }
+        ensures no_memory { result ≡ Turn.Answered Reply.NoMemory → (image : List ℕ) →
+            MayLackMemory (state_of image self.old) what.now }
+    {
+        match what {
+            EventKind::Write {
+                window,
+                offset,
+                width,
+                value,
+            } => self.write_hosted(alloc, *window, *offset, *width, *value, budget, out),
+            _ => self.begin_other_hosted(alloc, what, budget, out),
+        }
+    }
+
+    // Begins a write to a window of a guest whose disk the host serves.
+    #[inline(never)]
+    fn write_hosted<O: Outlet>(
+        &mut self,
+        alloc: A,
+        window: SlotWindow,
+        offset: u16,
+        width: u8,
+        value: u32,
+        budget: Budget,
+        out: &mut O,
+    ) -> Turn<A>
+        requires hosted { IsSome self.old.host }
+        ensures serves { (image : List ℕ) (health : Health) →
+            sectors_of (state_of image self.old).extent ≡ self.old.extent.count →
+            ServesTurn (Begins (EventKind.Write window offset width value) budget) (state_of image self.old) health health (state_of image self.new) result
+            (O.bytes out.old) (O.bytes out.new) }
+        ensures within { (image : List ℕ) (limit : ℕ) → O.limit out.old ≡ Some limit →
+            BeginsWithin limit (EventKind.Write window offset width value) budget (state_of image self.old) (state_of image self.new)
+            (O.bytes out.old) (O.bytes out.new) result }
+        ensures limited { PausesByLimit budget result }
+        ensures limit { O.limit out.new ≡ O.limit out.old }
+        ensures place { KeepsPlace self.old self.new }
+        ensures disturbed { self.new.disturbed ≡ self.old.disturbed }
+        ensures there { result ≢ Turn.Answered Reply.BadSlot }
+        ensures bad_range { result ≡ Turn.Answered Reply.BadRange → self.new ≡ self.old }
+        ensures no_memory { result ≡ Turn.Answered Reply.NoMemory → (image : List ℕ) →
+            MayLackMemory {A = A} (state_of image self.old) (EventKind.Write window offset width value) }
+    {
+        let what = EventKind::Write {
+            window,
+            offset,
+            width,
+            value,
+        };
+        self.hosted_turn(alloc, &what, budget, out)
+    }
+
+    // The same of any event.
+    #[inline(never)]
+    fn begin_other_hosted<O: Outlet>(
+        &mut self,
+        alloc: A,
+        what: &EventKind<A>,
+        budget: Budget,
+        out: &mut O,
+    ) -> Turn<A>
+        requires hosted { IsSome self.old.host }
+        ensures serves { (image : List ℕ) (health : Health) →
+            sectors_of (state_of image self.old).extent ≡ self.old.extent.count →
+            ServesTurn (Begins what.now budget) (state_of image self.old) health health (state_of image self.new) result
+            (O.bytes out.old) (O.bytes out.new) }
+        ensures within { (image : List ℕ) (limit : ℕ) → O.limit out.old ≡ Some limit →
+            BeginsWithin limit what.now budget (state_of image self.old) (state_of image self.new)
+            (O.bytes out.old) (O.bytes out.new) result }
+        ensures limited { PausesByLimit budget result }
+        ensures limit { O.limit out.new ≡ O.limit out.old }
+        ensures place { KeepsPlace self.old self.new }
+        ensures disturbed { self.new.disturbed ≡ self.old.disturbed }
+        ensures there { result ≢ Turn.Answered Reply.BadSlot }
+        ensures bad_range { result ≡ Turn.Answered Reply.BadRange → self.new ≡ self.old }
+        ensures no_memory { result ≡ Turn.Answered Reply.NoMemory → (image : List ℕ) →
+            MayLackMemory (state_of image self.old) what.now }
+    {
+        self.hosted_turn(alloc, what, budget, out)
+    }
+
+    // The same, read into its caller, who may know the kind of the event.
+    #[inline(always)]
+    fn hosted_turn<O: Outlet>(
         &mut self,
         alloc: A,
         what: &EventKind<A>,
@@ -202,7 +307,7 @@ impl<A: Allocator + Copy> Guest<A> {
     }
 
     // Goes on with a service that paused.
-    #[inline(always)]
+    #[inline(never)]
     fn resume<I: Image, O: Outlet>(
         &mut self,
         pause: Pause,

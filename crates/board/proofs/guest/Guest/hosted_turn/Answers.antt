@@ -12,7 +12,7 @@ use Rattle.board.proofs.Beside.{place_still}
 use Rattle.board.proofs.Flights.{held_beside, still_hosted}
 use Rattle.board.proofs.Hosts.{busy_given, no_part, notified_given, own_of, part_by_host, part_by_ring, part_by_wait, ringing_silent, serves_part, serves_passing, waiting_silent, within_part, within_passing, told_given}
 use Rattle.board.proofs.Ways.{must_by}
-use Rattle.board.proofs.guest.Guest.begin_hosted.Goals as goal
+use Rattle.board.proofs.guest.Guest.hosted_turn.Goals as goal
 
 pub returns-in-Host-clause-serves : goal.returns-in-Host-clause-serves
 returns-in-Host-clause-serves g c = λ image health filled.
