@@ -44,7 +44,8 @@ fn past_blocks(text: &[u8], from: usize, block: usize, most: usize) -> usize
     n
 }
 
-/// Whether all bytes are lower case digits.
+/// Whether all bytes are lower case digits. It is read into its caller, who mostly knows how many bytes these are.
+#[inline(always)]
 pub fn are_digits(field: &[u8]) -> bool
     ensures { IsTrue result ↔ All IsDigit field.now }
 {
