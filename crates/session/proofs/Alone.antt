@@ -30,13 +30,13 @@ use Rattle.session.proofs.Suiting.{never_busy, never_idle}
 use Rattle.session.proofs.Waiting.{others_wait}
 
 -- what a guest's own event comes to
-record OwnEvent {A : Type 0} (h : ℕ) (state : SlotState) (what : EventKind A) (reply : Reply A)
+pub record OwnEvent {A : Type 0} (h : ℕ) (state : SlotState) (what : EventKind A) (reply : Reply A)
     (old new : SessionState) : Type 0 where
-  last : SlotState
-  next : IsNextWithin (limit_of h old) (seat_of h state old) what reply (seat_of h last new)
-  there : slice_get (world_of new).slots h ≡ Some last
+  pub last : SlotState
+  pub next : IsNextWithin (limit_of h old) (seat_of h state old) what reply (seat_of h last new)
+  pub there : slice_get (world_of new).slots h ≡ Some last
 
-own_event : {A : Type 0} (old new : SessionState) (event : Event A) (reply : Reply A) (state : SlotState)
+pub own_event : {A : Type 0} (old new : SessionState) (event : Event A) (reply : Reply A) (state : SlotState)
     → IsStep old event reply new → slice_get (world_of old).slots event.slot ≡ Some state
     → OwnEvent event.slot state event.what reply old new
 own_event {A} old new event reply state h here =

@@ -1,16 +1,13 @@
 -- A service of a further disk over the image that is paused: its pieces so far, as one part of a whole service. Whatever the image's
 -- calls before it were, it is one from an image at rest.
-use Rattle.std.proofs.Common.{◌≡◌, ℕ, Option, Some, List, [], ◌++◌, refl, sym, ap, subst, ◌∙◌}
+use Rattle.std.proofs.Common.{◌≡◌, ℕ, Some, List, [], ◌++◌, refl, sym, ap, subst, ◌∙◌}
 use Rattle.std.specs.Prelude.{slice_set}
 use Rattle.std.specs.List.{slice_get}
 use Rattle.std.proofs.lemmas.List.{set-set}
 use Rattle.std.proofs.lemmas.Option.{same_Some}
-use Rattle.guest_memory.specs.Memory.{Memory}
 use Rattle.chain.specs.declared.budget.Budget.{Budget}
 use Rattle.chain.specs.declared.budget.Progress.{Progress}
 use Rattle.chain.specs.declared.budget.Progress.TheVariants as progress
-use Rattle.mmio_window.specs.declared.queue.Queue.{Queue}
-use Rattle.mmio_window.specs.declared.stage.Stage.{Stage}
 use Rattle.mmio_window.specs.declared.stage.Stage.TheVariants.{First, Next}
 use Rattle.mmio_window.specs.Pieces.{ServesTo}
 use Rattle.mmio_window.specs.Window.{WindowState, queue_at}
@@ -19,44 +16,17 @@ use Rattle.sector_cache.specs.Disk.{Disk}
 use Rattle.block_device.specs.declared.device.BlockDevice.{BlockDevice}
 use Rattle.block_device.specs.declared.extent.Extent.{Extent}
 use Rattle.block_device.specs.Device.{exact_device}
-use Rattle.block_device.specs.Extent.{SameOutside, SameSectors}
-use Rattle.block_device.proofs.Guests.{exact_same}
+use Rattle.block_device.specs.Extent.{SameOutside}
 use Rattle.device_list.specs.Device.{DeviceState}
 use Rattle.board.specs.declared.reply.Reply.TheVariants.{Done}
-use Rattle.board.specs.Image.{Health, health_of, disk_with}
+use Rattle.board.specs.Image.{Health, disk_with}
 use Rattle.board.specs.ImageDisks.{IsImageDiskService, bytes_in, image_device}
 use Rattle.board.specs.Machine.{at_rest}
 use Rattle.board.specs.Pausing.{IsImageDiskPiece}
 use Rattle.board.specs.Slot.{SlotState}
-use Rattle.board.proofs.Alike.{PieceAs, piece_as}
-use Rattle.board.proofs.Guests.{same_disk}
+use Rattle.board.proofs.Guests.{Rested, rested}
 use Rattle.board.proofs.Lists.{get_set}
 use Rattle.board.proofs.Whole.{came}
-
--- ---- a piece of a disk's service from one state of the image is one from another
-
-pub record Rested (device : BlockDevice) (stage : Stage) (budget : Budget) (progress : Progress) (queue : Option Queue)
-    (m m' : Memory) (w w' : WindowState) (old new : List ℕ) (start : Health) : Type 0 where
-  pub health : Health
-  pub served : ServesTo stage (exact_device device) budget 0 queue progress m m' w w' (disk_with old start)
-      (disk_with new health)
-
-pub rested : (device : BlockDevice) (stage : Stage) (budget : Budget) (progress : Progress) (queue : Option Queue)
-    (m m' : Memory) (w w' : WindowState) (old new : List ℕ) (before after start : Health)
-    → ServesTo stage (exact_device device) budget 0 queue progress m m' w w' (disk_with old before) (disk_with new after)
-    → Rested device stage budget progress queue m m' w w' old new start
-rested device stage budget progress queue m m' w w' old new before after start h =
-    let p : PieceAs (exact_device device) (exact_device device) SameSectors (exact_same device) budget stage 0 queue progress
-    m m' w w' (disk_with new after) (disk_with old start) =
-    piece_as (exact_device device) (exact_device device) SameSectors (exact_same device) budget stage 0 queue progress
-    m m' w w' (disk_with old before) (disk_with new after) (disk_with old start)
-    (record { contents = refl; sectors = refl }) h in
-    let is : p.state ≡ disk_with new (health_of p.state) = same_disk new p.state p.alike.contents p.alike.sectors in
-    record {
-      health = health_of p.state;
-      served = subst (λ (d : Disk). ServesTo stage (exact_device device) budget 0 queue progress m m' w w'
-          (disk_with old start) d) is p.served;
-    }
 
 -- what two pieces put out that put out nothing
 pub silent_both : (out output : List ℕ) → out ≡ [] → output ≡ [] → out ++ output ≡ []

@@ -30,3 +30,4 @@ pub mod Refusals
 pub mod Untouched
 pub mod Devices
 pub mod Plugged
+pub mod Paced

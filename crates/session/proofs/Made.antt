@@ -24,9 +24,11 @@ use Rattle.session.specs.declared.guest.GuestSpec.{GuestSpec}
 use Rattle.session.specs.Alone.{SeeAlike, at_front, new_session_alone, own_askings, part_of_image}
 use Rattle.session.specs.Course.{SessionStep, IsCourse, NeverPauses}
 use Rattle.session.specs.ImageDisks.{AreImageDisks, has_bad_image_disk}
+use Rattle.session.specs.Paced.{SeePacedAlike}
 use Rattle.session.specs.Refusing.{AreDevices, AreOutlets, has_bad_device}
 use Rattle.session.specs.Session.{SessionState, devices_of, new_session, slots_of, with_fresh, world_of}
 use Rattle.session.proofs.Alone.{see_alike}
+use Rattle.session.proofs.Paced.{see_paced_alike}
 use Rattle.session.proofs.PacedCourses.{never_pauses}
 
 -- a guest's part of an image is all of the image that is its own, by who has its disk
@@ -117,6 +119,21 @@ made_alone g guests guest image budget budget' steps more new last here x y neve
     (there_in guests g guest image budget here) (ap (λ (s : SlotState). Some s) (same_state guest image))
     (sym (ap (λ (o : Option Waiting). (unwrap_or o (none_waiting 0)).bytes) waits))
     (sym (ap (λ (o : Option Waiting). (unwrap_or o (none_waiting 0)).limit) waits)) askings
+
+-- however its services pause
+pub made_paced_alone : {A : Type 0} (g : ℕ) (guests : List GuestSpec) (guest : GuestSpec) (image : List ℕ)
+    (budget : Budget) (steps more : List (SessionStep A)) (new last : SessionState) → slice_get guests g ≡ Some guest
+    → IsCourse (new_session guests image budget) steps new
+    → IsCourse (new_session_alone guest image budget) more last
+    → own_askings 0 more ≡ own_askings g steps → SeePacedAlike g steps new 0 more last
+made_paced_alone g guests guest image budget steps more new last here x y askings =
+    let waits = waits_at guests g guest here in
+    see_paced_alike g 0 (new_session guests image budget) new (new_session_alone guest image budget) last steps more
+    (state_of image (made guest)) None x y (there_in guests g guest image budget here)
+    (ap (λ (s : SlotState). Some s) (same_state guest image))
+    (idle_in (length guests) g (slice_get_within guests g guest here)) (idle_in 1 0 (omega arith))
+    (sym (ap (λ (o : Option Waiting). (unwrap_or o (none_waiting 0)).bytes) waits))
+    (sym (ap (λ (o : Option Waiting). (unwrap_or o (none_waiting 0)).limit) waits)) refl askings
 
 -- and without a budget none of its services pauses
 pub made_alone_unlimited : {A : Type 0} (g : ℕ) (guests : List GuestSpec) (guest : GuestSpec) (image : List ℕ)

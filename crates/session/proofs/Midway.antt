@@ -43,12 +43,13 @@ use Rattle.board.specs.declared.task.Task.TheVariants.{Nothing, Serve, PutOut}
 use Rattle.board.specs.Task.{Finishes, IsBlockService, IsReceiveService, IsTransmitService, device_of}
 use Rattle.board.proofs.Alike.{PieceAs, piece_as}
 use Rattle.board.proofs.AtDevice.{asked_hosted, image_found, served_other}
+use Rattle.board.proofs.Guests.{Rested, rested}
 use Rattle.board.proofs.OnHost.{is_beside, passes}
 use Rattle.board.proofs.FurtherPieces.{Asking, asking, gives_at}
 use Rattle.board.proofs.Lists.{get_set}
 use Rattle.board.proofs.Whole.{came, none_further}
 use Rattle.session.proofs.ImageReplies.{asked_readied, done_by}
-use Rattle.session.proofs.ImageWays.{ImageEnded, ImageWay, Rested, image_again, image_ended, image_first, image_there, rested, silent_both}
+use Rattle.session.proofs.ImageWays.{ImageEnded, ImageWay, image_again, image_ended, image_first, image_there, silent_both}
 use Rattle.session.proofs.Parts.{asks_freely, readied_host, serves_itself}
 
 -- ---- the block device, from its image at rest

@@ -13,3 +13,4 @@ pub mod Alone
 pub mod Operations
 pub mod Devices
 pub mod Plugging
+pub mod Paced

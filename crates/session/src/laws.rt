@@ -1,11 +1,12 @@
 //! What holds of every session, by itself. The bodies are empty: each contract is a theorem.
 
-ghost use Rattle.std.specs.Prelude.{◌≡◌, ◌/◌, ℕ, List, [], ◌∷◌, length, Some, true, false};
+ghost use Rattle.std.specs.Prelude.{◌≡◌, ◌/◌, ℕ, Option, List, [], ◌∷◌, length, Some, true, false};
 ghost use Rattle.std.specs.List.{slice_get};
 ghost use Rattle.chain.specs.declared.budget.Budget.{Budget};
 ghost use Rattle.guest_memory.specs.Memory.{Inside, Memory, SameRange, stored};
 ghost use Rattle.board.specs.declared.event.Event.{Event};
 ghost use Rattle.board.specs.declared.event.EventKind.{EventKind};
+ghost use Rattle.board.specs.declared.pause.Pause.{Pause};
 ghost use Rattle.board.specs.declared.reply.Reply.{Reply};
 ghost use Rattle.block_device.specs.Flights.{InFlight};
 ghost use Rattle.board.specs.Fault.{IsAccepted};
@@ -23,6 +24,7 @@ ghost use Rattle.session.specs.declared.guest.GuestSpec.{GuestSpec};
 ghost use Rattle.session.specs.Alone.{IsSeatCourse, IsSeatedAlone, OwnCall, SeeAlike, at_front, new_session_alone, own_askings, part_of_image};
 ghost use Rattle.session.specs.Operations.{flight_at};
 ghost use Rattle.session.specs.Course.{SessionStep, HadRoom, IsCalled, IsCourse, NeverPauses, RunsAlone, paced_world_of};
+ghost use Rattle.session.specs.Paced.{IsPacedAlone, IsPacedCourse, PacedSeat, SeePacedAlike};
 ghost use Rattle.session.specs.Pausing.{IsCall, IsEventCall};
 ghost use Rattle.session.specs.ImageDisks.{AreImageDisks};
 ghost use Rattle.session.specs.Refusing.{AreDevices, AreOutlets};
@@ -34,8 +36,7 @@ use std::alloc::Allocator;
 /// A guest whose own services never pause sees exactly what it would see in a session of its own over its part of the
 /// image, whatever other guests do.
 ///
-/// It may be refused for want of room. Nothing is said of a guest that both pauses and is refused so; of one that pauses
-/// and isn't, `a_guest_with_room_runs_alone` says it.
+/// It may be refused for want of room. Of a guest whose services pause, `a_guest_that_pauses_is_alone` says it, for one budget.
 pub fn each_guest_is_alone<A: Allocator>()
     ensures alone { (g : ℕ) (guests : List GuestSpec) (guest : GuestSpec) (image : List ℕ)
         (budget budget' : Budget) (steps more : List (SessionStep A)) (new last : SessionState) → slice_get guests g ≡ Some guest →
@@ -70,6 +71,36 @@ pub fn each_guest_is_alone<A: Allocator>()
         own_askings h more ≡ own_askings g steps → SeeAlike g steps new h more last }
 {}
 
+/// Any guest sees exactly what it would see in a session of its own over its part of the image with the same budget,
+/// whatever other guests do, however its services pause, and whatever finds no room.
+pub fn a_guest_that_pauses_is_alone<A: Allocator>()
+    ensures alone { (g : ℕ) (guests : List GuestSpec) (guest : GuestSpec) (image : List ℕ) (budget : Budget)
+        (steps more : List (SessionStep A)) (new last : SessionState) → slice_get guests g ≡ Some guest →
+        IsCourse (new_session guests image budget) steps new →
+        IsCourse (new_session_alone guest image budget) more last →
+        own_askings 0 more ≡ own_askings g steps → SeePacedAlike g steps new 0 more last }
+
+    // what it sees is what the one-slot machine with its outlet and this budget gives
+    ensures runs { (g : ℕ) (old new : SessionState) (steps : List (SessionStep A)) (state : SlotState)
+        (paused : Option Pause) → IsCourse old steps new → slice_get (world_of old).slots g ≡ Some state →
+        slice_get old.paused g ≡ Some paused → IsPacedAlone g state paused old steps new }
+
+    // which has one answer to each call
+    ensures once { (budget : Budget) (limit : ℕ) (old one other : PacedSeat) (askings : List (Asking (OwnCall A)))
+        (answers answers' : List (Answer (Response A))) →
+        IsPacedCourse budget limit old askings answers one → IsPacedCourse budget limit old askings answers' other →
+        (answers ≡ answers') × (one ≡ other) }
+
+    // and from whatever state on: a guest of one session and one of another, as the same slot with the same output, of
+    // which the same is paused
+    ensures alike { (g h : ℕ) (old new other last : SessionState) (steps more : List (SessionStep A)) (state : SlotState)
+        (paused : Option Pause) → IsCourse old steps new → IsCourse other more last →
+        slice_get (world_of old).slots g ≡ Some state → slice_get (world_of other).slots h ≡ Some state →
+        slice_get old.paused g ≡ Some paused → slice_get other.paused h ≡ Some paused →
+        output_of h other ≡ output_of g old → limit_of h other ≡ limit_of g old → other.budget ≡ old.budget →
+        own_askings h more ≡ own_askings g steps → SeePacedAlike g steps new h more last }
+{}
+
 /// What a guest sees whose services never pause is what the one-slot machine with its outlet gives, which has one answer to
 /// each call.
 pub fn the_outlet_decides<A: Allocator>()
@@ -92,8 +123,7 @@ pub fn the_outlet_decides<A: Allocator>()
 /// A guest that is never refused for want of room gets the replies and puts out the bytes that it would if it were alone
 /// and never paused, whatever other guests do between the pieces of its services.
 ///
-/// An event counts where it begins, and its reply where it ends. A guest that both pauses and is refused for want of room
-/// is the one exception, of which nothing is said.
+/// An event counts where it begins, and its reply where it ends.
 pub fn a_guest_with_room_runs_alone<A: Allocator>()
     ensures within { (g : ℕ) (old new : SessionState) (steps : List (SessionStep A)) (state : SlotState) →
         IsCourse old steps new → HadRoom g steps →
