@@ -1,7 +1,6 @@
 /*
- * How long fifteen guests wait for a 4 KiB IN beside one that keeps the board as busy as it can, under one lock:
- * without a budget, with two, and where the host serves the disks, by a disk, by a console and by further devices. bench/waits
- * builds it.
+ * How long fifteen guests wait for a 4 KiB IN beside one that keeps the board as busy as it can, under one lock: without a
+ * budget, with two, and by each device of a slot. bench/waits builds it.
  *
  * In each round every guest asks at once, the hostile one is called first, and the others one after another. What each
  * of them waits is the time from the round's start to the end of its own call. A host that serves the disks moves no
@@ -91,10 +90,12 @@ static void make(bool hosted, uint32_t depth, uint32_t chains, uint64_t bytes)
         slots[i] = (struct kalyubos_slot){
             .size = sizeof *slots, .regions = { { BASE, i ? 0x20000 : 0x20000 + LARGE } },
             .start = i ? SECTORS + (uint64_t)i * LEN / 512 : 0, .count = i ? LEN / 512 : SECTORS,
-            .cols = 80, .rows = 25, .outlet = TEXT, .hosted = hosted,
+            .cols = 80, .rows = 25, .outlet = TEXT, .hosted = hosted, .spare = hosted ? 0 : LEN / 512 * !i,
             .depth = depth,
             .devices = { { .kind = KALYUBOS_CONSOLE_DEVICE, .cols = 80, .rows = 25 },
-                         { .kind = KALYUBOS_NETWORK, .mtu = 1500 } },
+                         { .kind = KALYUBOS_NETWORK, .mtu = 1500 }, { .kind = KALYUBOS_ENTROPY },
+                         { .kind = KALYUBOS_DISK, .sectors = LEN / 512 },
+                         { .kind = hosted || i ? KALYUBOS_NO_DEVICE : KALYUBOS_IMAGE_DISK, .sectors = LEN / 512 } },
         };
     config.image = image;
     config.image_len = hosted ? 0 : sizeof image;
@@ -182,8 +183,8 @@ static void keep_best(double *best, double took, int run)
         *best = took;
 }
 
-/* What the hostile guest does where the host serves the disks: what it begins with, and each of so many calls. Of a further
- * device it is the window. */
+/* What the hostile guest does: what it begins with, and each of so many calls. Of a further device it is the window. The host
+ * serves the slots' own disks, or they are of the image. */
 struct hostile {
     void (*begin)(const struct hostile *it);
     uint32_t (*call)(const struct hostile *it, uint32_t answer);
@@ -191,9 +192,10 @@ struct hostile {
     uint32_t depth, chains, len;
     uint16_t buffers;
     uint8_t window;
+    bool of_image;
 };
 
-enum { CONSOLE = KALYUBOS_DEVICE, CARD = KALYUBOS_DEVICE + 1 };
+enum { CONSOLE = KALYUBOS_DEVICE, CARD, ENTROPY, DISK, IMAGE_DISK };
 
 static void begin_reads(const struct hostile *it)
 {
@@ -248,11 +250,10 @@ static void begin_texts(const struct hostile *it)
     begin_tables(KALYUBOS_CONSOLE, 1, 1);
 }
 
-/* To its disk: requests of no known type, of a header, 254 bytes and a status, which ask the host for nothing. */
+/* To a disk: requests of no known type, of a header, 254 bytes and a status, which ask the host for nothing. */
 static void begin_others(const struct hostile *it)
 {
-    (void)it;
-    begin_tables(KALYUBOS_BLOCK, 0, 1);
+    begin_tables(it->window, 0, 1);
     memory[0][HEADER - BASE] = 99;
     for (uint16_t i = 0; i < RING; i++) {
         uint8_t *table = memory[0] + (TABLES - BASE) + (uint64_t)i * RING * 16;
@@ -280,8 +281,15 @@ static uint32_t call_console(const struct hostile *it, uint32_t answer)
 
 static uint32_t call_other(const struct hostile *it, uint32_t answer)
 {
-    (void)it;
-    return call_window(KALYUBOS_BLOCK, 0, answer);
+    return call_window(it->window, 0, answer);
+}
+
+/* To an entropy device, which has a byte: 256 readable bytes a chain, so that none takes it. */
+static void begin_entropy(const struct hostile *it)
+{
+    size_t taken;
+    begin_tables(it->window, 0, 1);
+    must(kalyubos_supply(&board, 0, it->window, (const uint8_t *)"r", 1, &taken));
 }
 
 /* To a further device: 256 bytes a chain to a console, and nothing to a card, which drops a chain without a frame. */
@@ -316,10 +324,23 @@ static void all_served(const struct hostile *it)
         must(KALYUBOS_IDLE);
 }
 
-static void run_hosted(const struct hostile *it, int run)
+/* Another guest's IN, from its notify to its end. */
+static void read_once(const struct hostile *it, uint8_t guest)
 {
     struct kalyubos_pending pending;
-    make(true, it->depth, it->chains, 0);
+    uint32_t answer = notify(guest, 1);
+    if (it->of_image) {
+        must(answer);
+        return;
+    }
+    must(answer == KALYUBOS_IO ? KALYUBOS_DONE : KALYUBOS_IDLE);
+    ask(guest, 0, LEN);
+    must(kalyubos_completed(&board, guest, KALYUBOS_BLOCK, 0, false, &pending));
+}
+
+static void run_beside(const struct hostile *it, int run)
+{
+    make(!it->of_image, it->depth, it->chains, 0);
     it->begin(it);
     for (uint8_t i = 1; i < GUESTS; i++)
         bring_up(i, LEN, 1);
@@ -332,9 +353,7 @@ static void run_hosted(const struct hostile *it, int run)
         if (answer != KALYUBOS_IO && answer != KALYUBOS_MORE)
             must(answer);
         for (uint8_t guest = 1; guest < GUESTS; guest++) {
-            must(notify(guest, 1) == KALYUBOS_IO ? KALYUBOS_DONE : KALYUBOS_IDLE);
-            ask(guest, 0, LEN);
-            must(kalyubos_completed(&board, guest, KALYUBOS_BLOCK, 0, false, &pending));
+            read_once(it, guest);
             keep_best(&wait_took[calls][guest], now() - start, run);
         }
     }
@@ -357,10 +376,10 @@ static void take_in_all(const struct hostile *it, int but)
     }
 }
 
-static void time_hosted(const char *what, struct hostile it)
+static void time_beside(const char *what, struct hostile it)
 {
     for (int run = 0; run < RUNS; run++)
-        run_hosted(&it, run);
+        run_beside(&it, run);
     take_in_all(&it, 0);
     tell(what);
     if (it.depth > 1) {
@@ -378,26 +397,36 @@ int main(void)
     time_of("256 chains of 4 KiB, no budget", 0, 0, LEN);
     time_of("256 chains of 4 KiB, 1 chain a call", 1, 0, LEN);
     time_of("256 chains of 4 KiB, 64 KiB a call", 0, 0x10000, LEN);
-    time_hosted("256 chains of 8 MiB, hosted", (struct hostile){ begin_reads, call_disk, MOST_CALLS, 1, 0, LARGE, 1, 0 });
-    time_hosted("256 chains of 8 MiB in 254 buffers, hosted",
-                (struct hostile){ begin_reads, call_disk, MOST_CALLS, 1, 0, LARGE, 254, 0 });
-    time_hosted("256 chains of 8 MiB, 64 in flight",
-                (struct hostile){ begin_reads, call_disk, MOST_CALLS, KALYUBOS_TAGS, 0, LARGE, 1, 0 });
-    time_hosted("256 chains of 8 MiB in 254 buffers, 64 in flight",
-                (struct hostile){ begin_reads, call_disk, MOST_CALLS, KALYUBOS_TAGS, 0, LARGE, 254, 0 });
-    time_hosted("256 tables of 256 bytes to a console, no budget",
-                (struct hostile){ begin_texts, call_console, CHAINS / RING, 1, 0, 0, 0, 0 });
-    time_hosted("256 tables of 256 bytes to a console, 1 chain",
-                (struct hostile){ begin_texts, call_console, CHAINS, 1, 1, 0, 0, 0 });
-    time_hosted("256 tables of 256 buffers to a disk, 1 chain",
-                (struct hostile){ begin_others, call_other, CHAINS / RING, 1, 1, 0, 0, 0 });
-    time_hosted("256 tables to a further console, no budget",
-                (struct hostile){ begin_further, call_further, CHAINS / RING, 1, 0, 0, 0, CONSOLE });
-    time_hosted("256 tables to a further console, 1 chain",
-                (struct hostile){ begin_further, call_further, CHAINS, 1, 1, 0, 0, CONSOLE });
-    time_hosted("256 tables of 256 buffers to a card, no budget",
-                (struct hostile){ begin_further, call_further, CHAINS / RING, 1, 0, 0, 0, CARD });
-    time_hosted("256 tables of 256 buffers to a card, 1 chain",
-                (struct hostile){ begin_further, call_further, CHAINS, 1, 1, 0, 0, CARD });
+    time_beside("256 chains of 8 MiB, hosted", (struct hostile){ begin_reads, call_disk, MOST_CALLS, 1, 0, LARGE, 1, 0, false });
+    time_beside("256 chains of 8 MiB in 254 buffers, hosted",
+                (struct hostile){ begin_reads, call_disk, MOST_CALLS, 1, 0, LARGE, 254, 0, false });
+    time_beside("256 chains of 8 MiB, 64 in flight",
+                (struct hostile){ begin_reads, call_disk, MOST_CALLS, KALYUBOS_TAGS, 0, LARGE, 1, 0, false });
+    time_beside("256 chains of 8 MiB in 254 buffers, 64 in flight",
+                (struct hostile){ begin_reads, call_disk, MOST_CALLS, KALYUBOS_TAGS, 0, LARGE, 254, 0, false });
+    time_beside("256 tables of 256 bytes to a console, no budget",
+                (struct hostile){ begin_texts, call_console, CHAINS / RING, 1, 0, 0, 0, 0, false });
+    time_beside("256 tables of 256 bytes to a console, 1 chain",
+                (struct hostile){ begin_texts, call_console, CHAINS, 1, 1, 0, 0, 0, false });
+    time_beside("256 tables of 256 buffers to a disk, 1 chain",
+                (struct hostile){ begin_others, call_other, CHAINS / RING, 1, 1, 0, 0, 0, false });
+    time_beside("256 tables to a further console, no budget",
+                (struct hostile){ begin_further, call_further, CHAINS / RING, 1, 0, 0, 0, CONSOLE, false });
+    time_beside("256 tables to a further console, 1 chain",
+                (struct hostile){ begin_further, call_further, CHAINS, 1, 1, 0, 0, CONSOLE, false });
+    time_beside("256 tables of 256 buffers to a card, no budget",
+                (struct hostile){ begin_further, call_further, CHAINS / RING, 1, 0, 0, 0, CARD, false });
+    time_beside("256 tables of 256 buffers to a card, 1 chain",
+                (struct hostile){ begin_further, call_further, CHAINS, 1, 1, 0, 0, CARD, false });
+    time_beside("256 tables to an entropy device, no budget",
+                (struct hostile){ begin_entropy, call_other, CHAINS / RING, 1, 0, 0, 0, ENTROPY, false });
+    time_beside("256 tables to an entropy device, 1 chain",
+                (struct hostile){ begin_entropy, call_other, CHAINS, 1, 1, 0, 0, ENTROPY, false });
+    time_beside("256 tables to a further disk, 1 chain",
+                (struct hostile){ begin_others, call_other, CHAINS / RING, 1, 1, 0, 0, DISK, false });
+    time_beside("256 tables to a further disk of the image, none",
+                (struct hostile){ begin_others, call_other, CHAINS / RING, 1, 0, 0, 0, IMAGE_DISK, true });
+    time_beside("256 tables to a further disk of the image, 1",
+                (struct hostile){ begin_others, call_other, CHAINS, 1, 1, 0, 0, IMAGE_DISK, true });
     return 0;
 }
