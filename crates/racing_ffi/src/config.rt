@@ -16,7 +16,7 @@ const CONFIG_SIZE: usize = size_of::<GuestConfig>();
 /// How many rounds a service has at most: each but the first one is of chains that its driver put on offer meanwhile.
 const ROUNDS: u32 = 16;
 
-/// How often a call looks at the disk's queue: each look but the last one begins an operation, and there are 64 at most.
+/// How often a call looks at the disk's queue: as often as all 64 operations begin, and then once more.
 const LOOKS: u32 = 65;
 
 /// A guest that runs on, as C describes it.
