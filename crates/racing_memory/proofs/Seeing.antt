@@ -72,7 +72,7 @@ reads_noted s a bs inside =
 pub stores_noted : (s : Seen) (a k v : ℕ) (bs : List ℕ) → bs ≡ little_bytes k v
     → Stores true (sightings_of s) (sightings_of (seen_again s a bs)) a k v
 stores_noted s a k v bs e = record {
-  extends = record { later = omega arith; kept = kept s a bs };
+  extends = record { next = omega arith; kept = kept s a bs };
   before = memory (sightings_of s);
   interference = same_self (memory (sightings_of s));
   stored = now_noted s a bs ∙ ap (λ (bs : List ℕ). put (memory (sightings_of s)) a bs) e;

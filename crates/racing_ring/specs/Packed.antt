@@ -103,7 +103,7 @@ abbrev pub used_word : ℕ → ℕ → ℕ → ℕ
 used_word flags id len = flags * 2 ^ 48 + id * 2 ^ 32 + len
 
 -- A list was given back in the descriptor at the ring's place: its len, its id and the flags by which the driver knows
--- that it is used were stored at once, in one word (2.8.1, 2.8.4). Whether any byte was written is among them.
+-- that it is used were stored at once, in one word and by one access (2.8.1, 2.8.4). Whether any byte was written is among them.
 pub record IsGiven (races : Bool) (old new : Sightings) (ring : RingState) (id len : ℕ) (wrote : Bool) : Type 0 where
   pub id_fits : id < 2 ^ 16
   pub len_fits : len < 2 ^ 32

@@ -25,7 +25,8 @@ pub record IsFaulty (old new : Sightings) (ring : RingState) (fault : Fault) : T
   pub head_seen : SeenAs old new head_in
   pub walked : IsWalkFaulty head_seen.place new ring.setup.indirect ring.setup.desc ring.setup.size (head_of head_in ring) fault
 
--- a chain was given back: its used entry was stored, id and len side by side, and only then the used idx (2.7.8)
+-- A chain was given back: its used entry was stored, id and len side by side, and only then the used idx (2.7.8). Each of both
+-- stores is one access, so the idx wasn't stored before the entry.
 pub record IsGiven (races : Bool) (old new : Sightings) (ring : RingState) (head len : ℕ) : Type 0 where
   pub between : Sightings
   pub entry : Stores races old between (used_entry ring) 8 (len * 2 ^ 32 + head)

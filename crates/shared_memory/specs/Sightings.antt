@@ -1,5 +1,5 @@
 -- A memory that its guest may write while a device works on it, as the device sees it: access by access.
-use Rattle.std.specs.Prelude.{◌≡◌, ℕ, ◌<◌, ◌≤◌, Bool, true, false}
+use Rattle.std.specs.Prelude.{◌≡◌, ℕ, ◌+◌, ◌≤◌, Bool, true, false}
 use Rattle.guest_memory.specs.Memory.{Memory, SameRange, put_num}
 
 -- The memory as each access shows it, of which the last one so far is number now; what stands behind that has no
@@ -35,9 +35,9 @@ pub record SeenAs (old new : Sightings) (m : Memory) : Type 0 where
   pub to : place ≤ new.now
   pub is : m ≡ new.at place
 
--- what was seen before stays, and something was seen behind it
+-- what was seen before stays, and behind it the memory was seen once
 pub record Extends (old new : Sightings) : Type 0 where
-  pub later : old.now < new.now
+  pub next : new.now ≡ old.now + 1
   pub kept : (k : ℕ) → k ≤ old.now → new.at k ≡ old.at k
 
 -- so it is at a store beside which the guest may write; a memory that nobody else writes is seen only as it is
