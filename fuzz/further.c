@@ -29,9 +29,14 @@ static uint8_t *region_of(const struct seat *seat, size_t number)
     return bytes;
 }
 
-static void keep_pages(const struct seat *seat, struct kalyubos_loan bits)
+/* Has the pages kept in these bits, or where they are too few it is refused: whether they are kept. */
+static bool keep_pages(const struct seat *seat, struct kalyubos_loan bits)
 {
-    need(kalyubos_keep_pages(seat->board, seat->slot, bits) == KALYUBOS_DONE, "keep_pages", seat->slot);
+    const struct guest *guest = seat->guest;
+    uint64_t end = guest->regions[guest->regions_len - 1].base + guest->regions[guest->regions_len - 1].len;
+    bool fits = bits.len == 0 || (end - guest->regions[0].base) / PAGE <= 8 * bits.len;
+    need(kalyubos_keep_pages(seat->board, seat->slot, bits) == (fits ? KALYUBOS_DONE : KALYUBOS_BAD_LOAN), "keep_pages", seat->slot);
+    return fits;
 }
 
 /* Has the pages marked, by chance, until end_pages. */
@@ -41,14 +46,15 @@ static void begin_pages(struct seat *seat)
     bool is_wanted = chance(seat, 4) == 0 && memory_size(seat->guest) <= sizeof pages.before;
     if (!is_wanted || pages.of != NULL)
         return;
+    memset(pages.bits, 0, sizeof pages.bits);
+    if (!keep_pages(seat, (struct kalyubos_loan){ pages.bits, sizeof pages.bits }))
+        return;
     pages.of = seat;
     for (size_t i = 0; i < seat->guest->regions_len; at += seat->guest->regions[i++].len)
         memcpy(at, region_of(seat, i), seat->guest->regions[i].len);
-    memset(pages.bits, 0, sizeof pages.bits);
-    keep_pages(seat, (struct kalyubos_loan){ pages.bits, sizeof pages.bits });
 }
 
-/* Each page that is otherwise now is marked, where there is a bit for it. */
+/* Each page that is otherwise now is marked. */
 static void end_pages(struct seat *seat)
 {
     const uint8_t *before = pages.before;
@@ -60,7 +66,7 @@ static void end_pages(struct seat *seat)
         const uint8_t *now = region_of(seat, i);
         uint64_t place = (seat->guest->regions[i].base - seat->guest->regions[0].base) / PAGE;
         for (size_t at = 0; at < seat->guest->regions[i].len; at += PAGE, before += PAGE, place++) {
-            bool is_marked = place >= 8 * sizeof pages.bits || (pages.bits[place / 8] >> place % 8 & 1) != 0;
+            bool is_marked = (pages.bits[place / 8] >> place % 8 & 1) != 0;
             need(is_marked || memcmp(before, now + at, PAGE) == 0, "a page is written and isn't marked", place);
             seat->counts.pages += is_marked;
         }

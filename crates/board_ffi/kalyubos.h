@@ -122,7 +122,8 @@ enum {
     KALYUBOS_SHORT_BUFFER = 26,     /* the snapshot or the frame doesn't fit into the buffer; nothing is written */
     KALYUBOS_NO_REGIONS = 27,       /* a slot has no region of memory */
     KALYUBOS_REGIONS_NOT_APART = 28, /* a region doesn't begin behind a gap after the one before it */
-    KALYUBOS_BAD_LOAN = 29,         /* the loans have another number or length than the regions */
+    KALYUBOS_BAD_LOAN = 29,         /* the loans have another number or length than the regions, or the bits of
+                                       kalyubos_keep_pages are too few */
     KALYUBOS_BAD_DEPTH = 30,        /* a disk that the host serves has a depth above 64 */
     KALYUBOS_OTHER_DEVICES = 31,    /* the snapshot has other further devices than the slot; nothing changed */
     KALYUBOS_BAD_DEVICE = 32,       /* a further device's kind isn't known, a network card's MTU is below 68, or a disk that the
@@ -493,9 +494,12 @@ uint32_t kalyubos_write_memory(struct kalyubos *board, uint8_t slot, uint64_t ad
  * seen. A page whose bit stays clear is as it was, but for what the host wrote itself: by kalyubos_write_memory, in
  * place, by an operation of a disk that it serves, or by DMA.
  *
- * `bits` is lent until kalyubos_destroy or the next such call; of no bytes none are kept, and pages behind them aren't
- * marked. It takes no memory, and is answered in a pause too, and while something is in flight. After BAD_SLOT `bits`
- * is the host's again.
+ * The bits go on through gaps: there is one for each 4096 addresses from the base of the first region to the end of the last.
+ * BAD_LOAN where `bits` has fewer, which changes nothing; more bytes, as of whole words, are left as they are. Of no bytes no bits
+ * are kept.
+ *
+ * `bits` is lent until kalyubos_destroy or the next such call that is DONE. It takes no memory, and is answered in a pause too,
+ * and while something is in flight. After BAD_SLOT and BAD_LOAN `bits` is the host's again.
  */
 uint32_t kalyubos_keep_pages(struct kalyubos *board, uint8_t slot, struct kalyubos_loan bits);
 

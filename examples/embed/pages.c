@@ -14,7 +14,7 @@
 enum { PAGE = 4096, PAGES = 32, LEN = PAGES * PAGE, BITS = PAGES / 8, SECTOR = 512, IMAGE_LEN = 64 * SECTOR };
 enum { TABLE = 0, AVAILABLE = PAGE, USED = 2 * PAGE, HEADER = 3 * PAGE, STATUS_BYTE = 4 * PAGE, DATA = 8 * PAGE };
 enum { NEXT = 1, WRITE = 2, IN = 0, OUT = 1, UNKNOWN = 99, NOTIFY = 0x050, STATUS = 0x070 };
-static const uint64_t BASE = 0x80000000;
+#define BASE 0x80000000ull
 
 struct descriptor {
     uint64_t addr;
@@ -24,7 +24,7 @@ struct descriptor {
 
 static struct kalyubos board;
 static struct kalyubos_pending pending;
-static uint8_t lent[LEN], before[LEN], bits[BITS], seen[BITS], image[IMAGE_LEN];
+static uint8_t lent[LEN], before[LEN], bits[BITS], seen[BITS], other[BITS + 4], image[IMAGE_LEN];
 static uint16_t offered;
 
 /* The guest's memory as it stands: where two regions have a gap between them, its bytes are none. */
@@ -145,10 +145,11 @@ static void check_image(void)
     clear();
     need(ask(OUT, 3, DATA, SECTOR) == KALYUBOS_DONE, "a write", 3);
     marked(ring, "a write marks no data");
-    need(keep(bits, 1) == KALYUBOS_DONE, "fewer bits", 1);
+    need(keep(other, sizeof bits - 1) == KALYUBOS_BAD_LOAN, "a byte too few", 1);
     clear();
     need(ask(IN, 0, DATA, SECTOR) == KALYUBOS_DONE, "a read", 0);
-    marked(ring, "a page behind the bits isn't marked, and no bit behind them is touched");
+    marked(ring | pages_of(DATA, SECTOR), "the bits that were kept are kept behind a refusal");
+    need(keep(other, sizeof other) == KALYUBOS_DONE && other[BITS] == 0, "bytes behind the last page's bit", 0);
     need(keep(bits, sizeof bits) == KALYUBOS_DONE, "all bits again", 0);
 }
 
@@ -215,10 +216,46 @@ static void check(bool is_lent, bool is_hosted, bool has_gap)
     need(keep(bits, sizeof bits) == KALYUBOS_NO_BOARD, "no board", 0);
 }
 
+/* ---- how many bytes there must be: a bit for each page from the first region's base to the last one's end */
+
+enum { FAR_BYTES = 0x100001 }; /* for 2^23 + 1 pages */
+
+static const struct {
+    struct kalyubos_region first, second;
+    size_t bytes;
+} LENGTHS[] = {
+    { { BASE, PAGE }, { 0, 0 }, 1 },
+    { { BASE, 8 * PAGE }, { 0, 0 }, 1 },
+    { { BASE, 9 * PAGE }, { 0, 0 }, 2 },
+    { { BASE, PAGE }, { BASE + 7 * PAGE, PAGE }, 1 },
+    { { BASE, PAGE }, { BASE + 8 * PAGE, PAGE }, 2 },
+    { { BASE, PAGE }, { BASE + ((uint64_t)1 << 35), PAGE }, FAR_BYTES },
+};
+
+static void check_lengths(void)
+{
+    static uint8_t many[FAR_BYTES + 1];
+    for (size_t i = 0; i < sizeof LENGTHS / sizeof *LENGTHS; i++) {
+        struct kalyubos_slot slots[] = {
+            { .size = sizeof *slots, .regions = { LENGTHS[i].first, LENGTHS[i].second }, .hosted = true },
+            { .size = sizeof *slots, .regions = { { BASE, LEN } }, .hosted = true },
+        };
+        make(&board, over_image(slots, 2, image, 0));
+        need(keep(many, LENGTHS[i].bytes - 1) == (LENGTHS[i].bytes == 1 ? KALYUBOS_DONE : KALYUBOS_BAD_LOAN), "a byte less", i);
+        need(keep(many, LENGTHS[i].bytes) == KALYUBOS_DONE, "a bit for each page", i);
+        need(keep(many, LENGTHS[i].bytes + 1) == KALYUBOS_DONE, "a byte more", i);
+        need(keep(many, 0) == KALYUBOS_DONE, "no bits", i);
+        need(kalyubos_keep_pages(&board, 1, (struct kalyubos_loan){ bits, BITS - 1 }) == KALYUBOS_BAD_LOAN, "the other slot's", i);
+        need(kalyubos_keep_pages(&board, 1, (struct kalyubos_loan){ bits, BITS }) == KALYUBOS_DONE, "the other slot's", i);
+        end(&board);
+    }
+}
+
 int main(void)
 {
     for (int kind = 0; kind < 8; kind++)
         check((kind & 1) != 0, (kind & 2) != 0, (kind & 4) != 0);
+    check_lengths();
     puts("pages: what devices write to is marked, and nothing else: own and lent memory, one region and two, both kinds of disk");
     return 0;
 }

@@ -29,6 +29,8 @@ pub enum Error {
     /// The snapshot or the frame doesn't fit into the buffer; see [`Board::save_into`](crate::Board::save_into) and
     /// [`Board::take_frame`](crate::Board::take_frame).
     ShortBuffer,
+    /// The slot's memory has more pages than were to be kept; see [`Board::keep_pages`](crate::Board::keep_pages).
+    TooFewPages,
     /// A number that this crate doesn't know, of a newer library.
     Other(u32),
 }
@@ -140,6 +142,7 @@ impl Error {
             21 => Err(Error::Idle),
             22 => Err(Error::NoImage),
             26 => Err(Error::ShortBuffer),
+            29 => Err(Error::TooFewPages),
             number => Err(Error::Other(number)),
         }
     }
@@ -208,6 +211,7 @@ impl fmt::Display for Error {
             Error::ShortBuffer => {
                 f.write_str("the buffer is shorter than the snapshot or the frame")
             }
+            Error::TooFewPages => f.write_str("the slot's memory has more pages"),
             Error::Other(number) => write!(f, "the library answered {number}"),
         }
     }

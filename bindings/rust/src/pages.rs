@@ -8,7 +8,8 @@ impl Board {
     /// Has it kept from now on which pages of a slot's memory its devices write to, for a host that moves the guest:
     /// KVM's dirty log doesn't see what the library writes. [`pages`](Board::pages) lends their bits: bit `k % 8` of
     /// byte `k / 8` stands for the page of 4096 bytes that begins `4096 * k` bytes behind the base of the first region.
-    /// All begin clear. Of 0 pages none are kept, and pages behind so many aren't marked.
+    /// All begin clear. The pages go on through gaps: there is one for each 4096 addresses from the base of the first region to
+    /// the end of the last, or it is [`Error::TooFewPages`], and what was kept is kept. Of 0 pages none are.
     ///
     /// A page whose bit stays clear is as it was, but for what the host wrote itself: by
     /// [`write_memory`](Board::write_memory), in place, by an operation of a disk that it serves, or by DMA.

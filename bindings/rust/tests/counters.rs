@@ -289,6 +289,7 @@ fn pages_that_a_device_writes_to_are_marked() {
         board.keep_pages(slot, 16).expect("a slot");
     }
     assert_eq!(board.keep_pages(2, 16), Err(Error::BadSlot));
+    assert_eq!(board.keep_pages(0, 8), Err(Error::TooFewPages));
     let mut request = REQUEST;
     (request[1].0, request[2].0) = (0x3800, 0x5a00);
     offer(board.memory(0, MEMORY).expect("a memory"), &request, &[0]);

@@ -1,9 +1,9 @@
 -- What a call does to a board.
-use Rattle.std.specs.Prelude.{◌≡◌, ◌⊎◌, ℕ, ◌==◌, ◌||◌, ◌<◌, ◌≤◌, ◌+◌, ◌++◌, ◌↔◌, Bool, false, List, [], Option, None, Some, IsTrue, IsErrOf, IsSome, IsSomeAnd, length, min, take, drop, Result}
+use Rattle.std.specs.Prelude.{◌≡◌, ◌≢◌, ◌⊎◌, ℕ, ◌==◌, ◌||◌, ◌<◌, ◌≤◌, ◌+◌, ◌*◌, ◌++◌, ◌↔◌, Bool, false, List, [], Option, None, Some, IsTrue, IsErrOf, IsSome, IsSomeAnd, length, min, take, drop, Result}
 use Rattle.std.specs.List.{slice_get}
 use Rattle.std.specs.Global.{Global}
 use Rattle.guest_memory.specs.Memory.{Inside, Memory}
-use Rattle.guest_memory.specs.Pages.{bits_of}
+use Rattle.guest_memory.specs.Pages.{bits_of, page_size}
 use Rattle.board.specs.declared.event.EventKind.{EventKind}
 use Rattle.block_device.specs.declared.operation.HostEvent.{HostEvent}
 use Rattle.block_device.specs.declared.operation.HostEvent.TheVariants as host
@@ -124,10 +124,20 @@ pub record HasNoRegion (slot addr code : ℕ) (old new : SessionState) : Type 0 
   pub bad_range : code ≡ 4
   pub kept : new ≡ old
 
--- The bits of the pages of a slot's memory are kept in these bytes from now on.
+-- these bytes have a bit for each page of a memory, from its first byte to its last, those in gaps included
+abbrev pub HasBits : Memory → List ℕ → Type 0
+HasBits memory bytes = length memory.bytes ≤ page_size * (8 * length bytes)
+
+-- The bits of the pages of a slot's memory are kept in these bytes from now on: in none, or there is one for each page.
 pub record KeepsPages (slot : ℕ) (bytes : List ℕ) (old new : SessionState) : Type 0 where
-  pub there : slot < length old.slots
+  pub enough : IsSomeAnd (slice_get old.slots slot) (λ found. (bytes ≡ []) ⊎ HasBits found.memory bytes)
   pub kept : new ≡ record old { slots = bits_in slot (slice_get old.slots slot) (bits_of bytes) old.slots }
+
+-- There is such a slot, and some page of its memory has no bit in these bytes. Nothing changes.
+pub record LacksBits (slot : ℕ) (bytes : List ℕ) (old new : SessionState) : Type 0 where
+  pub some : bytes ≢ []
+  pub few : IsSomeAnd (slice_get old.slots slot) (λ found. ¬ HasBits found.memory bytes)
+  pub kept : new ≡ old
 
 -- a service of the slot is paused, and nothing changes
 pub record IsBusy (slot code : ℕ) (old new : SessionState) : Type 0 where

@@ -1,6 +1,6 @@
 //! A guest's memory between its accesses. Nothing here takes memory.
 
-ghost use Rattle.std.specs.Prelude.{◌≡◌, ◌⊎◌, ◌<◌, ◌↔◌, ◌≤◌, length, OnErr, IfOk, IfErr, IsErrOf, IsSomeAnd, IsTrue};
+ghost use Rattle.std.specs.Prelude.{◌≡◌, ◌⊎◌, ◌<◌, ◌↔◌, ◌≤◌, length, OnErr, IfOk, IfErr, IfSome, IsErrOf, IsSome, IsSomeAnd, IsTrue};
 ghost use Rattle.std.specs.Borrow.{sem, u8, Array, Lends};
 ghost use Rattle.std.specs.List.{slice_get};
 ghost use Rattle.guest_memory.specs.Memory.{Inside, IsRest};
@@ -74,6 +74,17 @@ impl<A: Allocator> Session<A> {
             return Err(Refusal::Busy);
         }
         Ok(memory)
+    }
+
+    /// How many addresses the slot's memory has from its first byte to its last, those in gaps included; also while a service
+    /// is paused. There is no answer for a bad slot.
+    pub fn memory_len(&self, slot: u8) -> Option<u64>
+        ensures there { IsSome result ↔ (slot < length self.now.slots) }
+        ensures len { IfSome result (λ len.
+            IsSomeAnd (slice_get self.now.slots slot) (λ found. len ≡ length found.memory.bytes)) }
+    {
+        let memory = self.board.memory(slot)?;
+        Some(memory.len())
     }
 
     /// Has the bits of the slot's pages kept in these bytes from now on: one for each page of 4096 bytes of its memory, from
