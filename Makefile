@@ -1,6 +1,6 @@
 # The commands of the README, the library, its installing and its packages, the measurements, tries from outside, the hosts of the
 # library, and the suite. The first sentence above a target is its line in make help.
-.PHONY: check unproved unproved-program unproved-fast unproved-fast-program run prove show vshow look-test look-picture show-check test help library install uninstall dist deb dist-check bench fuzz broken trouble stops embed linux linux-test linux-picture stress doors peer mutants matrix
+.PHONY: check unproved unproved-program unproved-fast unproved-fast-program run prove show vshow look-test look-picture show-check test help library install uninstall dist deb dist-check bench fuzz broken trouble stops embed linux linux-test linux-picture stress doors peer mutants matrix planted
 
 TRACE ?= examples/two-guests.trace
 IMAGE ?=
@@ -173,6 +173,11 @@ peer:
 # Makes wrong devices out of a small model, and checks that each fails the scenario that is meant for it.
 mutants:
 	@crates/conformance/mutants/run
+
+# Has the prover judge the wrong bodies of crates/*/planted, which it must refuse by what each names: when a contract changed. It
+# wants the libraries that make test leaves.
+planted:
+	@.ci/planted
 
 # Makes the scenarios of the suite that are made, and compares their sums with those checked in. DIFF=1 shows what differs from an earlier commit.
 matrix:

@@ -1,6 +1,8 @@
-"""What stays true of the scripts: each that a person starts says what it does, and those that the gate never runs still do."""
+"""What stays true of the scripts: each that a person starts says what it does, those that the gate never runs still do, and the wrong bodies
+that .ci/planted plants stand in the sources."""
 import os
 import pathlib
+import re
 import shutil
 import tempfile
 
@@ -54,4 +56,16 @@ def shorten():
     return not wrong, wrong or ["a boot that is short stays as it is"]
 
 
-CHECKS = {"helps": helps, "shorten": shorten}
+def edits():
+    """Each planted edit has a function, words and text that stands in its source; each edit in the tables of docs/CHANGING.md is there."""
+    ran = called(TOP / ".ci/planted", "--list")
+    if ran.returncode:
+        return False, (ran.stdout + ran.stderr).splitlines()
+    there = {path.stem for path in TOP.glob("crates/*/*/*.edit")}
+    text = (TOP / "docs/CHANGING.md").read_text(encoding="utf-8").partition("### Wrong bodies, and what refuses them")[2].partition("\n## ")[0]
+    named = {name for row in re.findall(r"^\|.*\|(.*)\|$", text, re.MULTILINE) for name in re.findall(r"`(\w+)`", row)}
+    wrong = [f"docs/CHANGING.md names {name}, which is no edit" for name in sorted(named - there)]
+    return not wrong, wrong or [f"{len(ran.stdout.splitlines())} planted edits stand in their sources, {len(named)} are in the tables"]
+
+
+CHECKS = {"helps": helps, "shorten": shorten, "edits": edits}
