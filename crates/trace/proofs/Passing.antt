@@ -87,6 +87,29 @@ flushed a b false true items left e none whole front =
     rw (none, append-nil items) (passes_all a b items whole)
 flushed a b false false items left e none whole front = rw (append-nil items) (breaks_front a b items front)
 
+-- bytes were added to those that wait, and the writer took none; after a failure they are as good as gone
+pub kept : (a : Option (List ℕ)) (broken ok : Bool) (x y bytes : List ℕ) → ok ≡ true
+    → y ≡ (if ok then x ++ bytes else x)
+    → Sends a a (if broken then None else Some x) bytes (if broken then None else Some y)
+kept a broken false x y bytes e is = absurd cc
+kept a true true x y bytes e is = Keeps-refl a
+kept a false true x y bytes e is = record { gone = []; took = Appends-nil a; rest = sym is }
+
+-- the same where the writer first took all that waited
+pub flushed_kept : (a b s : Option (List ℕ)) (broken ok : Bool) (x y bytes : List ℕ)
+    → Sends a b s [] (if broken then None else Some x) → ok ≡ true → y ≡ (if ok then x ++ bytes else x)
+    → Sends a b s bytes (if broken then None else Some y)
+flushed_kept a b s broken ok x y bytes first e is =
+    sends_more a b b s (if broken then None else Some x) (if broken then None else Some y) [] bytes first
+    (kept b broken ok x y bytes e is)
+
+-- once the writer has failed nothing more goes out
+pub broken_off : (a b s : Option (List ℕ)) (broken : Bool) (x bytes : List ℕ)
+    → Sends a b s [] (if broken then None else Some x) → broken ≡ true
+    → Sends a b s bytes (if broken then None else Some x)
+broken_off a b s false x bytes first e = absurd cc
+broken_off a b s true x bytes first e = sends_more a b b s None None [] bytes first (Keeps-refl b)
+
 -- bytes are written past an empty buffer
 past : (a b : Option (List ℕ)) (ok : Bool) (bytes : List ℕ) → OnTrue ok (Appends a b bytes)
     → AppendsFront a b bytes → Sends a b (Some []) bytes (if not ok then None else Some [])
@@ -109,14 +132,13 @@ empty_is false items e (inl h) = cc
 empty_is false items e (inr h) = absurd cc
 
 -- the same from the states of the buffer, which kept none of the bytes
-pub put_cold : (a b c : Option (List ℕ)) (s s' t t' k k' ok : Bool) (x x' y y' bytes : List ℕ) → s ≡ false
-    → k ≡ false → x' ≡ (if k then x ++ bytes else x) → s' ≡ s
+pub put_cold : (a b c : Option (List ℕ)) (s s' t k k' ok : Bool) (x x' y y' bytes : List ℕ) → k ≡ false
+    → x' ≡ (if k then x ++ bytes else x) → s' ≡ s
     → Sends a b (if s' then None else Some x') [] (if t then None else Some y)
     → ((if t then None else Some y) ≡ Some []) ⊎ ((if t then None else Some y) ≡ None) → t ≡ false
     → k' ≡ false → y' ≡ (if k' then y ++ bytes else y) → OnTrue ok (Appends b c bytes)
     → AppendsFront b c bytes → Sends a c (if s then None else Some x) bytes (if not ok then None else Some y')
-put_cold a b c false s' false t' false false ok x x' y y' bytes e p q r first empty stopped
-    p' q' whole front =
-    put_past a b c (Some x) ok bytes y' (let none = empty_is false y refl empty in
-    rw (r, q, none) at first) (q' ∙ empty_is false y refl empty) whole front
-put_cold a b c s s' t t' k k' ok x x' y y' bytes e p q r first empty stopped p' q' whole front = absurd cc
+put_cold a b c s s' false false false ok x x' y y' bytes p q r first empty stopped p' q' whole front =
+    let none = empty_is false y refl empty in
+    put_past a b c (if s then None else Some x) ok bytes y' (rw (r, q, none) at first) (q' ∙ none) whole front
+put_cold a b c s s' t k k' ok x x' y y' bytes p q r first empty stopped p' q' whole front = absurd cc

@@ -25,24 +25,17 @@ two_digits n d e rest le lt p q =
     let small : n / 16 < 16 = omega arith in
     rw (p, q, num_split n le, num_digit (n / 16) small) refl
 
--- a line whose first two bytes are put
-abbrev numbered : ℕ → ℕ → List ℕ → List ℕ
-numbered x y xs = slice_set (slice_set xs 0 x) 1 y
+-- a line whose first byte is put: the slot's only digit, or its second one behind the first
+pub numbered_one : (n x : ℕ) (xs : List ℕ) → n < 16 → 1 ≤ length xs → x ≡ digit (n % 16)
+    → slice_set xs 0 x ≡ num n ++ drop 1 xs
+numbered_one n x [] lt some is = absurd (omega arith)
+numbered_one n x (v ∷ xs) lt some is =
+    let small : n % 16 ≡ n = omega arith in one_digit n x xs lt (sym (is ∙ ap digit small))
 
-pub numbered_one : (n x y : ℕ) (xs : List ℕ) → n < 16 → 2 ≤ length xs → y ≡ digit (n % 16)
-    → take (length (numbered x y xs) - 1) (drop 1 (numbered x y xs)) ≡ num n ++ drop 2 xs
-numbered_one n x y [] lt some last = absurd (omega arith)
-numbered_one n x y (v ∷ []) lt some last = absurd (omega arith)
-numbered_one n x y (v ∷ w ∷ xs) lt some last =
-    let small : n % 16 ≡ n = omega arith in
-    take_all (length (x ∷ y ∷ xs) - 1) (y ∷ xs) (omega arith)
-    ∙ one_digit n y xs lt (sym (last ∙ ap digit small))
-
-pub numbered_two : (n x y : ℕ) (xs : List ℕ) → 16 ≤ n → n < 256 → 2 ≤ length xs → x ≡ digit (n / 16)
-    → y ≡ digit (n % 16) → numbered x y xs ≡ num n ++ drop 2 xs
-numbered_two n x y [] le lt some first last = absurd (omega arith)
-numbered_two n x y (v ∷ []) le lt some first last = absurd (omega arith)
-numbered_two n x y (v ∷ w ∷ xs) le lt some first last = two_digits n x y xs le lt first last
+pub numbered_two : (n x : ℕ) (xs : List ℕ) → 16 ≤ n → n < 256 → 1 ≤ length xs → x ≡ digit (n % 16)
+    → digit (n / 16) ∷ slice_set xs 0 x ≡ num n ++ drop 1 xs
+numbered_two n x [] le lt some is = absurd (omega arith)
+numbered_two n x (v ∷ xs) le lt some is = two_digits n (digit (n / 16)) x xs le lt refl is
 
 -- the line of a record without output, by its bytes
 pub quiet_is : (slot : ℕ) (reply : List ℕ) (words : ℕ × ℕ) → num slot

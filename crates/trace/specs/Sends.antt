@@ -10,7 +10,7 @@ pub record AppendsFront (old new : Option (List ℕ)) (bytes : List ℕ) : Type 
 
 -- what waits in a buffer, unless its writer has failed
 abbrev pub waiting : {A : Type 0} → Buffer A → Option (List ℕ)
-waiting b = if b.is_broken then None else Some b.bytes.items
+waiting b = if b.is_broken then None else Some b.bytes
 
 -- the writer took a front of the bytes, and these are left
 pub record Passes (old new : Option (List ℕ)) (bytes left : List ℕ) : Type 0 where

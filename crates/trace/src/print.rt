@@ -12,6 +12,7 @@ ghost use Rattle.trace.specs.Words.{IsWidth, IsWordOf, behind_kind, fields_in, s
 mod asked;
 mod buffer;
 mod line;
+mod pending;
 mod range;
 mod records;
 mod regions;

@@ -7,6 +7,7 @@ ghost use Rattle.std.specs.Prelude.{◌≡◌, ◌⊎◌, ◌↔◌, ◌++◌, [
 ghost use Rattle.trace.specs.Sends.{Sends, waiting};
 
 use crate::no_memory::NoMemory;
+use crate::print::pending::Pending;
 use crate::print::write::write_whole;
 use std::alloc::{AllocError, Allocator};
 use std::io;
@@ -31,8 +32,8 @@ impl Write for Nowhere {
 /// Bytes that wait for their writer. Once it has failed nothing more is written.
 #[derive(Drop)]
 pub struct Buffer<A: Allocator> {
-    bytes: Vec<u8, A>,
-    most: usize,
+    bytes: Pending<A>,
+    grows: bool,
     is_broken: bool,
 }
 
@@ -42,8 +43,8 @@ impl<A: Allocator> Buffer<A> {
         ensures { IfOk result (λ buffer. waiting buffer ≡ Some []) }
     {
         Ok(Buffer {
-            bytes: Vec::with_capacity(alloc, most)?,
-            most,
+            bytes: Pending::with_room(alloc, most)?,
+            grows: false,
             is_broken: false,
         })
     }
@@ -53,8 +54,8 @@ impl<A: Allocator> Buffer<A> {
         ensures { IfOk result (λ buffer. waiting buffer ≡ Some []) }
     {
         Ok(Buffer {
-            bytes: Vec::with_capacity(alloc, room)?,
-            most: usize::MAX,
+            bytes: Pending::with_room(alloc, room)?,
+            grows: true,
             is_broken: false,
         })
     }
@@ -65,33 +66,32 @@ impl<A: Allocator> Buffer<A> {
     pub fn put<W: Write>(&mut self, out: &mut W, bytes: &[u8])
         ensures { Sends (W.contents out.old) (W.contents out.new) (waiting self.old) bytes.now (waiting self.new) }
     {
-        if self.is_broken || self.keep(bytes) {
-            return;
+        if !self.bytes.add(bytes) {
+            self.put_full(out, bytes);
         }
-        self.put_full(out, bytes);
     }
 
     // The same of bytes that found no room.
     #[inline(never)]
     fn put_full<W: Write>(&mut self, out: &mut W, bytes: &[u8])
-        requires { self.old.is_broken ≡ false }
         ensures { Sends (W.contents out.old) (W.contents out.new) (waiting self.old) bytes.now (waiting self.new) }
     {
+        if self.add_growing(bytes) {
+            return;
+        }
         self.flush(out);
-        if self.is_broken || self.keep(bytes) {
+        if self.is_broken || self.bytes.add(bytes) {
             return;
         }
         self.is_broken = !write_whole(out, bytes);
     }
 
-    // Adds the bytes where there is room for them, and answers whether there was.
-    #[inline(always)]
-    fn keep(&mut self, bytes: &[u8]) -> bool
-        ensures items { self.new.bytes.items ≡ (if result then self.old.bytes.items ++ bytes.now else self.old.bytes.items) }
+    // Adds the bytes to a buffer that grows, and answers whether it did.
+    fn add_growing(&mut self, bytes: &[u8]) -> bool
+        ensures bytes { self.new.bytes ≡ (if result then self.old.bytes ++ bytes.now else self.old.bytes) }
         ensures state { self.new.is_broken ≡ self.old.is_broken }
     {
-        bytes.len() <= self.most.saturating_sub(self.bytes.len())
-            && self.bytes.extend_from_slice(bytes).is_ok()
+        self.grows && self.bytes.grow(bytes.len()) && self.bytes.add(bytes)
     }
 
     /// Writes all that waits.
@@ -102,7 +102,7 @@ impl<A: Allocator> Buffer<A> {
         if self.is_broken {
             return;
         }
-        self.is_broken = !write_whole(out, &self.bytes);
+        self.is_broken = !write_whole(out, self.bytes.as_slice());
         self.bytes.clear();
     }
 
@@ -114,7 +114,7 @@ impl<A: Allocator> Buffer<A> {
             return Err(NoMemory);
         }
         let Buffer { bytes, .. } = self;
-        Ok(bytes)
+        Ok(bytes.into_bytes())
     }
 
     /// Whether the writer has failed.

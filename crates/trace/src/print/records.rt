@@ -1,6 +1,6 @@
 //! The text of records.
 
-ghost use Rattle.std.specs.Prelude.{◌≡◌, ◌≤◌, ◌∷◌, [], ◌++◌, All, IfOk, codes, drop, length};
+ghost use Rattle.std.specs.Prelude.{◌≡◌, ◌≤◌, ◌<◌, ◌∷◌, [], ◌++◌, All, IfOk, codes, drop, length};
 ghost use Rattle.board.specs.Line.{HasInterruptWords};
 ghost use Rattle.hex.specs.Hex.{encode_lower};
 ghost use Rattle.trace.specs.Records.{entry_of, quiet_line, read_line, record_fields, record_line, records_text, reply_field};
@@ -122,10 +122,10 @@ fn put_value<W: Write, B: Allocator>(
     requires console { words.1 ≤ 3 }
     ensures { Sends (W.contents out.old) (W.contents out.new) (waiting buffer.old) (ended (quiet_line slot (codes "v:" ++ fixed 8 value) words)) (waiting buffer.new) }
 {
-    let mut line = *b"00 v:00000000 - 0 0\n";
-    line[5..13].copy_from_slice(&eight_digits(value));
-    line[16] = digit_of(words.0);
-    line[18] = digit_of(words.1);
+    let mut line = *b"0 v:00000000 - 0 0\n";
+    line[4..12].copy_from_slice(&eight_digits(value));
+    line[15] = digit_of(words.0);
+    line[17] = digit_of(words.1);
     put_numbered(buffer, out, slot, &mut line);
 }
 
@@ -135,14 +135,14 @@ fn put_done<W: Write, B: Allocator>(buffer: &mut Buffer<B>, out: &mut W, slot: u
     requires console { words.1 ≤ 3 }
     ensures { Sends (W.contents out.old) (W.contents out.new) (waiting buffer.old) (ended (quiet_line slot (codes "done") words)) (waiting buffer.new) }
 {
-    let mut line = *b"00 done - 0 0\n";
-    line[10] = digit_of(words.0);
-    line[12] = digit_of(words.1);
+    let mut line = *b"0 done - 0 0\n";
+    line[9] = digit_of(words.0);
+    line[11] = digit_of(words.1);
     put_numbered(buffer, out, slot, &mut line);
 }
 
-// Puts a line, whose first two bytes become the digits of its slot: the second alone where the first is 0. It is read into its
-// caller, who knows how long the line is.
+// Puts a line, whose first byte becomes the last digit of its slot. It is read into its caller, who knows how long the line is:
+// so it is stored without a call.
 #[inline(always)]
 fn put_numbered<W: Write, B: Allocator>(
     buffer: &mut Buffer<B>,
@@ -150,16 +150,30 @@ fn put_numbered<W: Write, B: Allocator>(
     slot: u8,
     line: &mut [u8],
 )
-    requires { 2 ≤ length line.old }
-    ensures { Sends (W.contents out.old) (W.contents out.new) (waiting buffer.old) (num slot ++ drop 2 line.old) (waiting buffer.new) }
+    requires { 1 ≤ length line.old }
+    ensures { Sends (W.contents out.old) (W.contents out.new) (waiting buffer.old) (num slot ++ drop 1 line.old) (waiting buffer.new) }
 {
-    line[0] = digit_of(slot / 16);
-    line[1] = digit_of(slot % 16);
+    line[0] = digit_of(slot % 16);
     if slot < 16 {
-        buffer.put(out, &line[1..]);
-    } else {
         buffer.put(out, line);
+    } else {
+        put_behind_digit(buffer, out, slot / 16, line);
     }
+}
+
+// Puts a line behind the first digit of its slot.
+#[inline(never)]
+fn put_behind_digit<W: Write, B: Allocator>(
+    buffer: &mut Buffer<B>,
+    out: &mut W,
+    first: u8,
+    line: &[u8],
+)
+    requires { first < 16 }
+    ensures { Sends (W.contents out.old) (W.contents out.new) (waiting buffer.old) (digit first ∷ line.now) (waiting buffer.new) }
+{
+    buffer.put(out, &[digit_of(first)]);
+    buffer.put(out, line);
 }
 
 // The same of how many bytes were taken. A number of two digits goes out with its line, all of it at once.
@@ -178,11 +192,11 @@ fn put_took<W: Write, B: Allocator>(
         put_took_in_parts(buffer, out, slot, count, words);
         return;
     }
-    let mut line = *b"00 took:00 - 0 0\n";
-    line[8] = digit_of((count / 16) as u8);
-    line[9] = digit_of((count % 16) as u8);
-    line[13] = digit_of(words.0);
-    line[15] = digit_of(words.1);
+    let mut line = *b"0 took:00 - 0 0\n";
+    line[7] = digit_of((count / 16) as u8);
+    line[8] = digit_of((count % 16) as u8);
+    line[12] = digit_of(words.0);
+    line[14] = digit_of(words.1);
     put_numbered(buffer, out, slot, &mut line);
 }
 

@@ -4,6 +4,6 @@ use Rattle.trace.proofs.print.buffer.Buffer.flush.Goals as goal
 pub returns-clause-sends : goal.returns-clause-sends
 returns-clause-sends g c =
     flushed (g.W.Write.contents c.args.out.now) (g.W.Write.contents c.write_whole.new.out)
-    c.args.self.now.is_broken c.write_whole.result c.args.self.now.bytes.items c.clear.new.self.items
-    c.if-self.false c.clear.ensures.items (rw c.deref.ensures.value at c.write_whole.ensures.whole)
-    (rw c.deref.ensures.value at c.write_whole.ensures.front)
+    c.args.self.now.is_broken c.write_whole.result c.args.self.now.bytes c.clear.new.self
+    c.if-self.false c.clear.ensures (rw c.as_slice.ensures at c.write_whole.ensures.whole)
+    (rw c.as_slice.ensures at c.write_whole.ensures.front)
