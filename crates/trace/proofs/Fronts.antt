@@ -1,5 +1,5 @@
 -- A number, a slot and digits at the front of a line.
-use Rattle.std.proofs.Common.{◌≡◌, ◌≢◌, ℕ, zero, suc, ◌+◌, ◌-◌, ◌*◌, ◌%◌, ◌<◌, ◌≤◌, List, [], ◌∷◌, ◌++◌, All, length, length-take, get_or, take, drop, sym, ap, subst, ◌∙◌, arith}
+use Rattle.std.proofs.Common.{◌≡◌, ◌≢◌, ℕ, zero, suc, ◌+◌, ◌-◌, ◌*◌, ◌%◌, ◌<◌, ◌≤◌, List, [], ◌∷◌, ◌++◌, All, length, length-take, get_or, take, drop, refl, sym, ap, subst, ◌∙◌, arith}
 use Rattle.std.proofs.lemmas.List.{append_assoc, take_all}
 use Rattle.hexadecimal.specs.Fields.{IsDigit, SpellsBytes}
 use Rattle.hexadecimal.proofs.ByteFields.{pairs_say}
@@ -21,10 +21,15 @@ pub one_digit : (d a : ℕ) (xs : List ℕ) → d < 16 → digit d ≡ a → a �
 one_digit d a xs lt is = ap (λ (c : ℕ). c ∷ xs) (sym is)
     ∙ ap (λ (ys : List ℕ). ys ++ xs) (sym (num_digit d lt))
 
-not_zero : (d a : ℕ) → digit d ≡ a → a ≢ 48 → 0 < d
+pub not_zero : (d a : ℕ) → digit d ≡ a → a ≢ 48 → 0 < d
 unfolding digit
 not_zero zero a is other = absurd (other (sym is))
 not_zero (suc d) a is other = omega arith
+
+-- a number whose first digit isn't 0 is none, whichever digits follow
+pub stays_positive : (i n d : ℕ) → (0 < i → 0 < n) → (i ≡ 0 → 0 < d) → 0 < n * 16 + d
+stays_positive zero n d before first = let pos = first refl in omega arith
+stays_positive (suc i) n d before first = let pos = before (omega arith) in omega arith
 
 pub two_digits : (h l a b : ℕ) (xs : List ℕ) → h < 16 → l < 16 → digit h ≡ a → digit l ≡ b → a ≢ 48
     → a ∷ b ∷ xs ≡ num (h * 16 + l) ++ xs

@@ -31,3 +31,4 @@ pub mod EventLines
 pub mod TrustedFields
 pub mod TrustedNumbers
 pub mod Trusting
+pub mod Spelled

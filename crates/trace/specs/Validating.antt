@@ -13,6 +13,7 @@ use Rattle.trace.specs.Cuts.{lines_of}
 use Rattle.trace.specs.declared.read.validating.Validated.{Validated}
 use Rattle.trace.specs.declared.read.parsed_event.ParsedEvent.{ParsedEvent}
 use Rattle.trace.specs.Refusals.{IsFine, RefusesLine, SaysEvent, SaysSlot}
+use Rattle.trace.specs.ParsedEvent.{IsTaken}
 use Rattle.trace.specs.Reading.{IsTraceOf}
 use Rattle.trace.specs.Text.{Content, event_line, joined}
 
@@ -32,6 +33,12 @@ bytes_len _ = 0
 
 abbrev pub parsed_len : {A : Type 0} → ParsedEvent A → ℕ
 parsed_len s = length s.bytes.now / 2
+
+-- the text's first line is one that is taken off at once: it spells so many bytes, and this follows it
+pub record IsSkipped (A : Type 0) (text : List ℕ) (len : ℕ) (after : List ℕ) : Type 0 where
+  pub parsed : ParsedEvent A
+  pub taken : IsTaken text parsed after
+  pub spelled : len ≡ parsed_len parsed
 
 -- these are the lines of the events
 pub record AreLinesOf {A : Type 0} (events : List (Event A)) (lines : List ℕ) : Type 0 where

@@ -15,7 +15,6 @@ use crate::read::parsed_event::ParsedEvent;
 use std::alloc::Allocator;
 
 /// The event of the first line, and what follows that.
-#[inline(always)]
 pub fn take_event<A: Allocator + Copy>(alloc: A, rest: &[u8]) -> (ParsedEvent<'_, A>, &[u8])
     requires { BeginsWithEvent A rest.now }
     ensures { TakesEvent rest.now result.0 result.1.now }

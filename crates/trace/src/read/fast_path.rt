@@ -4,8 +4,10 @@
 //! and `entry` reads it field by field: it may have a fault, or be a line of another kind.
 #![tactic(auto, unfolding(crate::specs::ParsedEvent::parsed_line))]
 
-ghost use Rattle.std.specs.Prelude.{◌≡◌, ◌++◌, ◌∷◌, ◌^◌, ◌<◌, IfSome};
+ghost use Rattle.std.specs.Prelude.{◌≡◌, ◌*◌, ◌++◌, ◌∷◌, ◌^◌, ◌<◌, ℕ, List, IfSome};
 ghost use Rattle.trace.specs.ParsedEvent.{IsTaken};
+ghost use Rattle.trace.specs.Validating.{IsSkipped};
+ghost use Rattle.hexadecimal.specs.Fields.{IsFixed};
 ghost use Rattle.hexadecimal.specs.Spelling.{fixed, num};
 ghost use Rattle.trace.specs.Spelling.{width_digit, window};
 ghost use Rattle.trace.specs.Words.{Bytes as ByBytes, IsWidth, Says, spelled};
@@ -17,15 +19,14 @@ use crate::read::offset::offset_of;
 use crate::read::parsed_event::ParsedEvent;
 use crate::word::Word;
 use board::{Bytes, EventKind, SlotWindow};
-use hexadecimal::{digits_len, fixed_number, number_u32, value_of};
+use hexadecimal::{are_digits, digits_len, fixed_number, fixed_value, number_u32, value_of};
 use std::alloc::Allocator;
 
 /// An event and what follows its line, where that is spelled so.
 type Taken<'a, A> = Option<(ParsedEvent<'a, A>, &'a [u8])>;
 
-/// The event of a text's first line, where that is spelled so, and what follows it. It is read into its caller, who may want a
-/// part of the event alone.
-#[inline(always)]
+/// The event of a text's first line, where that is spelled so, and what follows it.
+#[inline(never)]
 pub(crate) fn take_fast<A: Allocator>(alloc: A, text: &[u8]) -> Taken<'_, A>
     ensures { IfSome result (λ x. IsTaken text.now x.0 x.1.now) }
 {
@@ -37,6 +38,41 @@ pub(crate) fn take_fast<A: Allocator>(alloc: A, text: &[u8]) -> Taken<'_, A>
         [b'i', b'n', b' ', rest @ ..] => input_in(alloc, rest),
         _ => None,
     }
+}
+
+/// How many bytes a text's first line spells, where it is one of these, and what follows it. Each kind of line is judged by itself,
+/// so that no event is made of it.
+#[inline]
+pub(crate) fn skip_fast<A: Allocator>(alloc: A, text: &[u8]) -> Option<(usize, &[u8])>
+    ensures { IfSome result (λ x. IsSkipped A text.now x.0 x.1.now) }
+{
+    match text {
+        [word, b' ', rest @ ..] => match word {
+            b'r' => skipped(read_in::<A>(rest)),
+            b'w' => skipped(write_in::<A>(rest)),
+            _ => None,
+        },
+        [b'm', b'w', b' ', rest @ ..] => skipped(mem_write_in(alloc, rest)),
+        [b'm', b'r', b' ', rest @ ..] => skip_mem_read::<A>(rest),
+        [b'i', b'n', b' ', rest @ ..] => skipped(input_in(alloc, rest)),
+        _ => None,
+    }
+}
+
+#[inline(never)]
+fn skip_mem_read<A: Allocator>(rest: &[u8]) -> Option<(usize, &[u8])>
+    ensures { IfSome result (λ x. IsSkipped A (spelled Word.MemRead ++ 32 ∷ rest.now) x.0 x.1.now) }
+{
+    skipped(mem_read_in::<A>(rest))
+}
+
+// What is left of an event that was taken off.
+#[inline(always)]
+fn skipped<A: Allocator>(taken: Taken<'_, A>) -> Option<(usize, &[u8])>
+    ensures { (text : List ℕ) → IfSome taken.entry (λ x. IsTaken text x.0 x.1.now) → IfSome result (λ x. IsSkipped A text x.0 x.1.now) }
+{
+    let (parsed, after) = taken?;
+    Some((parsed.spelled_len(), after))
 }
 
 // The event that these bytes after its word and a space say.
@@ -63,10 +99,7 @@ fn write_in<A: Allocator>(rest: &[u8]) -> Taken<'_, A>
     let [b'\n', after @ ..] = rest else {
         return None;
     };
-    let value = match width {
-        4 => fixed_number(value, 8)?,
-        _ => fixed_number(value, digits)?,
-    };
+    let value = value_of_width(value, width)?;
     let what = EventKind::Write {
         window,
         offset,
@@ -74,6 +107,21 @@ fn write_in<A: Allocator>(rest: &[u8]) -> Taken<'_, A>
         value,
     };
     Some((ParsedEvent::plain(slot, what), after))
+}
+
+// The value that is written by this width, of twice so many digits. Those of four bytes are judged all at once.
+#[inline(always)]
+fn value_of_width(field: &[u8], width: u8) -> Option<u32>
+    requires { IsWidth width }
+    ensures { IfSome result (λ value. IsFixed (2 * width) field.now value) }
+{
+    if width != 4 {
+        return fixed_number(field, 2 * width as usize);
+    }
+    if field.len() != 8 || !are_digits(&field[..8]) {
+        return None;
+    }
+    Some(fixed_value(&field[..8]))
 }
 
 #[inline(always)]

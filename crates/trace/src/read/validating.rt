@@ -10,7 +10,7 @@ use crate::format::Format;
 use crate::read::after_head;
 use crate::read::cut::take_line;
 use crate::read::entry::{Entry, entry_of};
-use crate::read::fast_path::take_fast;
+use crate::read::fast_path::skip_fast;
 use board::SlotSpec;
 use std::alloc::{Allocator, Global};
 
@@ -70,8 +70,8 @@ impl<'a, A: Allocator + Copy> Validated<'a, A> {
         ensures ok { IfOk result (λ after. ValidatesFirst A text.now after.now (validation self.old) (validation self.new)) }
         ensures err { IfErr result (λ fault. fault ≢ FaultKind.NoMemory → RefusesFirst (validation self.old) text.now fault) }
     {
-        if let Some((parsed, after)) = take_fast(alloc, text) {
-            self.count(line, parsed.spelled_len());
+        if let Some((len, after)) = skip_fast(alloc, text) {
+            self.count(line, len);
             return Ok(after);
         }
         let Some((this, after)) = take_line(text) else {
