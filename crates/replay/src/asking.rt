@@ -24,19 +24,13 @@ use trace::{Buffer, put_asked_end, put_begun};
 /// How many tags a set has at most, each by its bit.
 const MOST_TAGS: u8 = 64;
 
-/// The tags of an event's slot that stay taken while it is handled: all but the one that it completes. A hosted trace alone
-/// tells of them.
+/// The tags of an event's slot that stay taken while it is handled: all but the one that it completes.
 #[inline(always)]
-pub(crate) fn staying<I: Image, A: Allocator>(
-    board: &Board<I, A>,
-    hosted: bool,
-    event: &Event<A>,
-) -> u64
-    ensures { hosted ≡ true → result ≡
+pub(crate) fn staying<I: Image, A: Allocator>(board: &Board<I, A>, event: &Event<A>) -> u64
+    ensures { result ≡
         taken_bits (staying (tag_in event.now.what) (tags_of None (slice_get board.now.slots event.now.slot))) }
 {
     match event.what {
-        _ if !hosted => 0,
         EventKind::Host(HostEvent::Complete { tag, .. }) => {
             without(taken(board, event.slot, None), tag)
         }
@@ -46,16 +40,12 @@ pub(crate) fn staying<I: Image, A: Allocator>(
 
 /// The same of the further disk that the event names: no tags where it names none.
 #[inline(always)]
-pub(crate) fn staying_further<I: Image, A: Allocator>(
-    board: &Board<I, A>,
-    hosted: bool,
-    event: &Event<A>,
-) -> u64
-    ensures { hosted ≡ true → result ≡ taken_bits (staying (completed_in event.now.what)
+pub(crate) fn staying_further<I: Image, A: Allocator>(board: &Board<I, A>, event: &Event<A>) -> u64
+    ensures { result ≡ taken_bits (staying (completed_in event.now.what)
         (further_tags (device_in event.now.what) (slice_get board.now.slots event.now.slot))) }
 {
     match &event.what {
-        EventKind::Device { device, what } if hosted => {
+        EventKind::Device { device, what } => {
             staying_by(what, taken(board, event.slot, Some(*device)))
         }
         _ => 0,

@@ -2,7 +2,7 @@
 //!
 //! Memory that is read is printed where it lies.
 
-ghost use Rattle.std.specs.Prelude.{◌≡◌, ◌≤◌, ◌∷◌, ◌/◌, [], true, IfSome, length};
+ghost use Rattle.std.specs.Prelude.{◌≡◌, ◌≤◌, ◌∷◌, ◌/◌, [], true, false, IfSome, length};
 ghost use Rattle.std.specs.List.{slice_get};
 ghost use Rattle.board.specs.declared.event.EventKind.{EventKind};
 ghost use Rattle.board.specs.declared.reply.Reply.{Reply};
@@ -10,10 +10,9 @@ ghost use Rattle.board.specs.Image.{Tells};
 ghost use Rattle.board.specs.InPlace.{event_in};
 ghost use Rattle.board.specs.Slot.{AreInterruptWords};
 ghost use Rattle.trace.specs.Sends.{Sends, waiting};
-ghost use Rattle.trace.specs.Text.{ended};
 ghost use Rattle.trace.specs.Validating.{parsed_len};
 ghost use Rattle.replay.specs.Running.{AnswersEvent, AnswersParsed, IsPart, RunsParsed, words_of, IsForDevice};
-ghost use Rattle.replay.specs.Telling.{SendsRun, told_line, told_of};
+ghost use Rattle.replay.specs.Telling.{SendsRun};
 ghost use Rattle.trace.specs.ParsedEvent.{IsFineParsed};
 ghost use Rattle.hexadecimal.specs.Fields.{IsBytesField};
 ghost use Rattle.trace.specs.Words.{Says, Bytes as ByBytes};
@@ -30,11 +29,11 @@ use trace::{
     Buffer, ParsedEvent, put_asked_end, put_fields, put_line, put_read, read_bytes, spelled_len,
 };
 
-/// Runs an event, and sends the text of its record. What the console puts out waits in `output` meanwhile.
+/// Runs an event of a trace that isn't hosted, and sends the text of its record. What the console puts out waits in `output`
+/// meanwhile. It is read into its caller, who knows the kind of the event: nothing here may keep a reference to it.
 #[inline(always)]
 pub(crate) fn run_event<W: Write, I: Image, A: Allocator + Copy>(
     board: &mut Board<I, A>,
-    hosted: bool,
     parsed: &ParsedEvent<'_, A>,
     room: &mut [u8],
     output: &mut Vec<u8, A>,
@@ -43,54 +42,60 @@ pub(crate) fn run_event<W: Write, I: Image, A: Allocator + Copy>(
 )
     requires fine { IsFineParsed parsed.now }
     requires room { parsed_len parsed.now ≤ length room.old }
-    ensures { RunsParsed parsed.now (λ event. SendsRun hosted I.disk board.old board.new (event ∷ [])
+    ensures { RunsParsed parsed.now (λ event. SendsRun false I.disk board.old board.new (event ∷ [])
         (W.contents writer.old) (W.contents writer.new) (waiting text.old) (waiting text.new)) }
 {
     output.clear();
     let slot = parsed.event.slot;
     if let EventKind::MemRead { addr, len } = parsed.event.what {
         if let Some(part) = part_of(board, slot, addr, len) {
-            put_part(text, writer, hosted, slot, part, words(board, slot));
+            put_read(text, writer, slot, part, words(board, slot), b'\n');
             return;
         }
     }
-    let stayed = staying(board, hosted, &parsed.event);
-    let stayed_further = staying_further(board, hosted, &parsed.event);
     let Handled {
         reply,
         block_irq,
         console_irq,
     } = answer(board, parsed, room, output);
     let words = (block_irq, console_irq);
-    if !hosted {
-        put_line(text, writer, slot, &reply, output.as_slice(), words);
-        return;
-    }
-    put_fields(text, writer, slot, &reply, output.as_slice(), words, b' ');
-    put_asked(text, writer, board, &parsed.event, stayed, stayed_further);
+    put_line(text, writer, slot, &reply, output.as_slice(), words);
 }
 
-// Puts the line of a read of memory that gave these bytes. No operation begins with one.
-#[inline(always)]
-fn put_part<W: Write, A: Allocator>(
+/// The same of a hosted trace.
+#[inline(never)]
+pub(crate) fn run_hosted_event<W: Write, I: Image, A: Allocator + Copy>(
+    board: &mut Board<I, A>,
+    parsed: &ParsedEvent<'_, A>,
+    room: &mut [u8],
+    output: &mut Vec<u8, A>,
     text: &mut Buffer<A>,
     writer: &mut W,
-    hosted: bool,
-    slot: u8,
-    part: &[u8],
-    words: (u8, u8),
 )
-    requires block { words.0 ≤ 3 }
-    requires console { words.1 ≤ 3 }
-    ensures { Sends (W.contents writer.old) (W.contents writer.new) (waiting text.old)
-        (ended (told_line {A = A} hosted (told_of slot (Reply.Bytes part.now) [] words []))) (waiting text.new) }
+    requires fine { IsFineParsed parsed.now }
+    requires room { parsed_len parsed.now ≤ length room.old }
+    ensures { RunsParsed parsed.now (λ event. SendsRun true I.disk board.old board.new (event ∷ [])
+        (W.contents writer.old) (W.contents writer.new) (waiting text.old) (waiting text.new)) }
 {
-    if !hosted {
-        put_read(text, writer, slot, part, words, b'\n');
-        return;
+    output.clear();
+    let slot = parsed.event.slot;
+    if let EventKind::MemRead { addr, len } = parsed.event.what {
+        if let Some(part) = part_of(board, slot, addr, len) {
+            put_read(text, writer, slot, part, words(board, slot), b' ');
+            put_asked_end(text, writer, true);
+            return;
+        }
     }
-    put_read(text, writer, slot, part, words, b' ');
-    put_asked_end(text, writer, true);
+    let stayed = staying(board, &parsed.event);
+    let stayed_further = staying_further(board, &parsed.event);
+    let Handled {
+        reply,
+        block_irq,
+        console_irq,
+    } = answer(board, parsed, room, output);
+    let words = (block_irq, console_irq);
+    put_fields(text, writer, slot, &reply, output.as_slice(), words, b' ');
+    put_asked(text, writer, board, &parsed.event, stayed, stayed_further);
 }
 
 // The bytes of a slot's memory from an address on, where they lie.

@@ -3,7 +3,7 @@
 //! Each line is read, its event handled and the text of its record sent before the next. Bytes that it spells are
 //! written into room that is lent.
 
-ghost use Rattle.std.specs.Prelude.{◌≢◌, ℕ, [], ◌∷◌, List, Err, length};
+ghost use Rattle.std.specs.Prelude.{◌≢◌, ℕ, [], ◌∷◌, List, Err, length, true, false};
 ghost use Rattle.board.specs.declared.event.Event.{Event};
 ghost use Rattle.replay.specs.declared.fault.ReplayFault.{ReplayFault};
 ghost use Rattle.replay.specs.Running.{AfterLines, HasRoomFor, RunsLine};
@@ -13,7 +13,7 @@ ghost use Rattle.trace.specs.Sends.{waiting};
 ghost use Rattle.trace.specs.Validating.{AreEventLines, AreLinesOf};
 
 use crate::fault::ReplayFault;
-use crate::running::run_event;
+use crate::running::{run_event, run_hosted_event};
 use board::Board;
 use sector_cache::Image;
 use std::alloc::Allocator;
@@ -88,30 +88,116 @@ fn run_line<'a, W: Write, I: Image, A: Allocator + Copy>(
     ensures { RunsLine A lines.now result.now (λ event. SendsRun hosted I.disk board.old board.new (event ∷ [])
         (W.contents writer.old) (W.contents writer.new) (waiting text.old) (waiting text.new)) }
 {
+    if hosted {
+        run_hosted_line(alloc, board, lines, room, output, text, writer)
+    } else {
+        run_plain_line(alloc, board, lines, room, output, text, writer)
+    }
+}
+
+// The same of a trace that isn't hosted.
+fn run_plain_line<'a, W: Write, I: Image, A: Allocator + Copy>(
+    alloc: A,
+    board: &mut Board<I, A>,
+    lines: &'a [u8],
+    room: &mut [u8],
+    output: &mut Vec<u8, A>,
+    text: &mut Buffer<A>,
+    writer: &mut W,
+) -> &'a [u8]
+    requires begins { BeginsWithEvent A lines.now }
+    requires room { HasRoomFor A lines.now (length room.old) }
+    ensures { RunsLine A lines.now result.now (λ event. SendsRun false I.disk board.old board.new (event ∷ [])
+        (W.contents writer.old) (W.contents writer.new) (waiting text.old) (waiting text.new)) }
+{
     match lines {
-        [b'r', b' ', rest @ ..] => {
-            let (parsed, after) = take_read(rest);
-            run_event(board, hosted, &parsed, room, output, text, writer);
-            after
-        }
-        [b'w', b' ', rest @ ..] => {
-            let (parsed, after) = take_write(rest);
-            run_event(board, hosted, &parsed, room, output, text, writer);
-            after
-        }
+        [word, b' ', rest @ ..] => match word {
+            b'r' => {
+                let (parsed, after) = take_read(rest);
+                run_event(board, &parsed, room, output, text, writer);
+                after
+            }
+            b'w' => {
+                let (parsed, after) = take_write(rest);
+                run_event(board, &parsed, room, output, text, writer);
+                after
+            }
+            _ => run_other_line(alloc, board, lines, room, output, text, writer),
+        },
         [b'm', b'w', b' ', rest @ ..] => {
             let (parsed, after) = take_mem_write(alloc, rest);
-            run_event(board, hosted, &parsed, room, output, text, writer);
+            run_event(board, &parsed, room, output, text, writer);
             after
         }
         [b'i', b'n', b' ', rest @ ..] => {
             let (parsed, after) = take_input(alloc, rest);
-            run_event(board, hosted, &parsed, room, output, text, writer);
+            run_event(board, &parsed, room, output, text, writer);
+            after
+        }
+        _ => run_other_line(alloc, board, lines, room, output, text, writer),
+    }
+}
+
+// The same of a line of any kind.
+#[inline(never)]
+fn run_other_line<'a, W: Write, I: Image, A: Allocator + Copy>(
+    alloc: A,
+    board: &mut Board<I, A>,
+    lines: &'a [u8],
+    room: &mut [u8],
+    output: &mut Vec<u8, A>,
+    text: &mut Buffer<A>,
+    writer: &mut W,
+) -> &'a [u8]
+    requires begins { BeginsWithEvent A lines.now }
+    requires room { HasRoomFor A lines.now (length room.old) }
+    ensures { RunsLine A lines.now result.now (λ event. SendsRun false I.disk board.old board.new (event ∷ [])
+        (W.contents writer.old) (W.contents writer.new) (waiting text.old) (waiting text.new)) }
+{
+    let (parsed, after) = take_event(alloc, lines);
+    run_event(board, &parsed, room, output, text, writer);
+    after
+}
+
+// The same of a hosted trace.
+fn run_hosted_line<'a, W: Write, I: Image, A: Allocator + Copy>(
+    alloc: A,
+    board: &mut Board<I, A>,
+    lines: &'a [u8],
+    room: &mut [u8],
+    output: &mut Vec<u8, A>,
+    text: &mut Buffer<A>,
+    writer: &mut W,
+) -> &'a [u8]
+    requires begins { BeginsWithEvent A lines.now }
+    requires room { HasRoomFor A lines.now (length room.old) }
+    ensures { RunsLine A lines.now result.now (λ event. SendsRun true I.disk board.old board.new (event ∷ [])
+        (W.contents writer.old) (W.contents writer.new) (waiting text.old) (waiting text.new)) }
+{
+    match lines {
+        [b'r', b' ', rest @ ..] => {
+            let (parsed, after) = take_read(rest);
+            run_hosted_event(board, &parsed, room, output, text, writer);
+            after
+        }
+        [b'w', b' ', rest @ ..] => {
+            let (parsed, after) = take_write(rest);
+            run_hosted_event(board, &parsed, room, output, text, writer);
+            after
+        }
+        [b'm', b'w', b' ', rest @ ..] => {
+            let (parsed, after) = take_mem_write(alloc, rest);
+            run_hosted_event(board, &parsed, room, output, text, writer);
+            after
+        }
+        [b'i', b'n', b' ', rest @ ..] => {
+            let (parsed, after) = take_input(alloc, rest);
+            run_hosted_event(board, &parsed, room, output, text, writer);
             after
         }
         _ => {
             let (parsed, after) = take_event(alloc, lines);
-            run_event(board, hosted, &parsed, room, output, text, writer);
+            run_hosted_event(board, &parsed, room, output, text, writer);
             after
         }
     }

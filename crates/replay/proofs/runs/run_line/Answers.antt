@@ -1,30 +1,7 @@
-use Rattle.std.proofs.Common.{rules, arith}
-use Rattle.std.proofs.lemmas.Grind.{common_steps}
 use Rattle.replay.proofs.runs.run_line.Goals as goal
 
-pub run_event-requires-in-114-clause-room : goal.run_event-requires-in-114-clause-room
-run_event-requires-in-114-clause-room g c =
-    let room = c.requires.room c.take_read-parsed.result.0 c.take_read-parsed.result.1.now in
-    let taken = c.take_read-parsed.ensures in
-    first_of (search (rules, room, taken), grind (arith, common_steps, room, taken))
+pub returns-then-hosted : goal.returns-then-hosted
+returns-then-hosted g c = rw c.if-hosted.true c.run_hosted_line.ensures
 
-pub run_event-requires-in-119-clause-room : goal.run_event-requires-in-119-clause-room
-run_event-requires-in-119-clause-room g c =
-    let room = c.requires.room c.take_write-parsed.result.0 c.take_write-parsed.result.1.now in
-    let taken = c.take_write-parsed.ensures in
-    first_of (search (rules, room, taken), grind (arith, common_steps, room, taken))
-
-pub run_event-requires-clause-room : goal.run_event-requires-clause-room
-run_event-requires-clause-room g c =
-    let room = c.requires.room c.take_mem_write-parsed.result.0 c.take_mem_write-parsed.result.1.now in
-    let taken = c.take_mem_write-parsed.ensures in
-    first_of (search (rules, room, taken), grind (arith, common_steps, room, taken))
-
-pub run_event-requires-in-105-clause-room : goal.run_event-requires-in-105-clause-room
-run_event-requires-in-105-clause-room g c =
-    let room = c.requires.room c.take_input-parsed.result.0 c.take_input-parsed.result.1.now in
-    let taken = c.take_input-parsed.ensures in
-    first_of (search (rules, room, taken), grind (arith, common_steps, room, taken))
-
-pub run_event-requires-in_default-clause-room : goal.run_event-requires-in_default-clause-room
-run_event-requires-in_default-clause-room g c = c.requires.room _ _ c.take_event-parsed.ensures
+pub returns-else-hosted : goal.returns-else-hosted
+returns-else-hosted g c = rw c.if-hosted.false c.run_plain_line.ensures
