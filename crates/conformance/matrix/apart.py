@@ -116,12 +116,16 @@ def life_of(name, about, what, board, script, slots):
 # --- step by step
 
 def bring_up(guest, window, setup):
-    """The accesses of a bring-up, with what shows each before the next."""
+    """The accesses of a bring-up, with what shows each before the next; every second slot selects in the other order."""
     guest.setup = setup
-    steps = [("w", STATUS, 0), ("w", STATUS, ACKNOWLEDGE | DRIVER), ("w", DEVICE_SEL, 1), ("r", 0x010), ("w", DEVICE_SEL, 0), ("r", 0x010),
-             ("w", DRIVER_FEATURES, guest.low(window, setup)), ("w", DRIVER_SEL, 1), ("w", DRIVER_FEATURES, setup.high()),
-             ("w", STATUS, ACKNOWLEDGE | DRIVER | FEATURES_OK), ("r", STATUS)]
-    for index in INDICES[window]:
+    order = -1 if pattern(guest.slot) & 4 else 1
+    steps = [("w", STATUS, 0), ("w", STATUS, ACKNOWLEDGE | DRIVER)]
+    for selector in (1, 0)[::order]:
+        steps += [("w", DEVICE_SEL, selector), ("r", 0x010)]
+    for selector, value in ((0, guest.low(window, setup)), (1, setup.high()))[::order]:
+        steps += [("w", DRIVER_SEL, selector), ("w", DRIVER_FEATURES, value)]
+    steps += [("w", STATUS, ACKNOWLEDGE | DRIVER | FEATURES_OK), ("r", STATUS)]
+    for index in INDICES[window][::order]:
         steps.append(("w", QUEUE_SEL, index))
         steps += [("w", offset, value) for offset, value in guest.values(window, index, setup).items()]
         steps.append(("r", QUEUE_READY))
@@ -171,6 +175,7 @@ def in_steps(board, slots, turn, order):
             for at in range(len(steps[0])):
                 each(lambda guest: step(guest, window, *steps[guest.slot][at]))
         each(lambda guest: guest.type(bytes([guest.slot + 1, 0x40 + guest.slot, 0xff - guest.slot])))
+        each(lambda guest: pattern(guest.slot) % 4 == 0 and guest.type(bytes([0x80 + guest.slot]) * 4100))
         for window, index in (("b", 0), ("c", 1), ("c", 0)) * 2:
             each(lambda guest: offers(guest, window, index))
             each(lambda guest: guest.notify(window, index))

@@ -221,8 +221,8 @@ def events(kind, sizes):
 
 
 def names_event(queue, turn):
-    """Whether the event that the driver names is that of the next place."""
-    away = (0, 1, 0, -1, 255, 256, 0, -256, 0x8000, 0, 2)[turn % 11]
+    """Whether the event that the driver names is that of the next place: near the multiples of 256 always."""
+    away = 0 if (turn + 2) % 256 < 5 else (0, 1, 0, -1, 255, 256, 0, -256, 0x8000, 0, 2)[turn % 11]
     if not queue.is_packed:
         queue.put(queue.areas[1] + 4 + 2 * queue.size, number((queue.place + away) % 65536, 2))
         return away == 0
