@@ -655,7 +655,7 @@ uint32_t kalyubos_saved_len(const struct kalyubos *board, uint8_t slot, size_t *
  *  - stops the guest's CPUs, and keeps a write that was answered NO_ROOM: its CPU makes it again behind the restore;
  *  - brings a paused service to its end by kalyubos_go_on;
  *  - puts each disk that it serves on hold by kalyubos_hold, and completes all that is in flight by kalyubos_completed;
- *  - takes the output.
+ *  - takes the output, and by kalyubos_take_frame all that network cards and further consoles sent.
  * Then, with no call for the slot between, it saves the devices, and copies the memory and the disk.
  */
 KALYUBOS_LOOK_AT_IT
@@ -670,15 +670,21 @@ uint32_t kalyubos_save(const struct kalyubos *board, uint8_t slot, uint8_t *into
  *
  * A slot whose own disk was on hold when it was saved is on hold behind this call, and kalyubos_release begins there what
  * stayed on offer. Only a slot whose disk the host serves takes such a snapshot; for another it is OTHER_SLOT. A hold
- * of a further disk isn't in a snapshot, and stays as it is: so that what stayed on offer begins, hold the disk before
- * this call, and release it behind it.
+ * of a further disk isn't in a snapshot, and stays as it is; nor are a link, a further console's size, and what waits
+ * in further devices.
  *
  * Each snapshot that kalyubos_save wrote of such a slot is taken. Of other bytes the first of BAD_SNAPSHOT,
  * OTHER_SLOT, OTHER_DEVICES and BAD_STATE that holds is answered, or they are taken as they spell: there is no
  * checksum. A snapshot that was changed on its way harms its own guest alone. BUSY as kalyubos_saved_len.
  *
- * Before it the host puts back the guest's memory and its disk, those of an image by the board that it makes. Behind it
- * the host sets both lines by `pending`, makes a write again that was answered NO_ROOM, and starts the guest's CPUs.
+ * Before it the host puts back the guest's memory and its disk, those of an image by the board that it makes, and sets
+ * links and further consoles' sizes. Behind it the host
+ *  - hands in what is to wait in further devices, and releases each disk that is on hold;
+ *  - notifies each queue of each further device, since a driver that did so before the save doesn't again: it writes 0,
+ *    then 1, to QueueNotify (0x050) of their windows by kalyubos_write. What is on offer is served, and else nothing
+ *    happens;
+ *  - sets the lines of all windows, by `pending` and by kalyubos_device_pending;
+ *  - makes a write again that was answered NO_ROOM, and starts the guest's CPUs.
  */
 KALYUBOS_LOOK_AT_IT
 uint32_t kalyubos_restore(struct kalyubos *board, uint8_t slot, const uint8_t *from, size_t from_len,

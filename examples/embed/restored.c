@@ -1,0 +1,251 @@
+/*
+ * A guest is saved while each of its further devices has a chain on offer that its driver has notified of, and is rolled back
+ * and moved. What waits in these devices is in no snapshot: the host hands it in again, in any order, and notifies each queue
+ * in the driver's place.
+ */
+#include <inttypes.h>
+#include <stdio.h>
+#include <stdlib.h>
+#include <string.h>
+
+#include "kalyubos.h"
+
+enum { NOTIFY = 0x050, WRITE = 2, ENTROPY = KALYUBOS_DEVICE, CARD, CONSOLE, WINDOWS };
+
+/* Each queue has a part of the guest's memory, for its ring and one buffer. */
+enum { AREA = 0x10000, TABLE = 0, AVAILABLE = 0x1000, USED = 0x2000, DATA = 0x4000, PLACES = 128, MEMORY_LEN = 2 * WINDOWS * AREA };
+
+/* What a card and a console keep for the host, and what the driver offers beyond it. */
+enum { HEADER = 12, FRAME = 64, FRAMES = 64, OUTPUT = 32768, OUTPUTS = 2, ROOM = 65536, POOL = 4096, BYTES = 16 };
+
+static const uint64_t MEMORY = 0x80000000;
+static struct kalyubos board;
+static uint8_t *memory;
+
+/* A guest that is stopped: its devices and its memory. */
+struct saved {
+    uint8_t devices[4096], memory[MEMORY_LEN];
+    size_t len;
+};
+
+static void need(bool holds, const char *what, uint64_t number)
+{
+    if (!holds) {
+        fprintf(stderr, "restored: %s (%" PRIu64 ")\n", what, number);
+        exit(1);
+    }
+}
+
+static void answers_done(uint32_t answer, const char *what)
+{
+    need(answer == KALYUBOS_DONE, what, answer);
+}
+
+/* ---- the host */
+
+/* Brings the service of a call to its end. */
+static void finish(uint32_t answer, const char *what)
+{
+    struct kalyubos_pending pending;
+    while (answer == KALYUBOS_MORE)
+        answer = kalyubos_go_on(&board, 0, &pending);
+    answers_done(answer, what);
+}
+
+static void make_board(uint32_t chains)
+{
+    const struct kalyubos_slot slot = {
+        .size = sizeof slot, .regions = { { MEMORY, MEMORY_LEN } }, .hosted = true, .depth = 1, .cols = 80, .rows = 25, .outlet = 16,
+        .identity = "disk-a",
+        .devices = { { .kind = KALYUBOS_ENTROPY }, { .kind = KALYUBOS_NETWORK, .mtu = 1500 }, { .kind = KALYUBOS_CONSOLE_DEVICE } },
+    };
+    size_t len;
+    struct kalyubos_config config = kalyubos_config_of(&slot, 1);
+    config.chains = chains;
+    answers_done(kalyubos_create(&board, &config), "create");
+    answers_done(kalyubos_memory(&board, 0, MEMORY, &memory, &len), "memory");
+}
+
+static void save(struct saved *saved)
+{
+    answers_done(kalyubos_save(&board, 0, saved->devices, sizeof saved->devices, &saved->len), "save");
+    memcpy(saved->memory, memory, MEMORY_LEN);
+}
+
+static void restore(const struct saved *saved)
+{
+    struct kalyubos_pending pending;
+    memcpy(memory, saved->memory, MEMORY_LEN);
+    answers_done(kalyubos_restore(&board, 0, saved->devices, saved->len, &pending), "restore");
+}
+
+/*
+ * Notifies each queue of the further devices in its driver's place, which serves a chain that was on offer at the save. Of a
+ * queue that isn't there or isn't ready it does nothing. A disk that the host serves would answer KALYUBOS_IO.
+ */
+static void notify_devices(void)
+{
+    struct kalyubos_pending pending;
+    for (uint8_t window = KALYUBOS_DEVICE; window < WINDOWS; window++)
+        for (uint32_t queue = 0; queue < 2; queue++)
+            finish(kalyubos_write(&board, 0, window, NOTIFY, 4, queue, &pending), "a notification by the host");
+}
+
+static void supply(uint8_t window, size_t len)
+{
+    static const uint8_t bytes[2 * POOL];
+    size_t taken;
+    finish(kalyubos_supply(&board, 0, window, bytes, len, &taken), "supply");
+    need(taken == len, "what was supplied", taken);
+}
+
+static bool receive(void)
+{
+    static const uint8_t frame[FRAME];
+    bool taken;
+    finish(kalyubos_receive(&board, 0, CARD, frame, FRAME, &taken), "receive");
+    return taken;
+}
+
+/* Takes frames or output until none waits; how many bytes they have. */
+static size_t take_all(uint8_t window)
+{
+    static uint8_t into[ROOM];
+    size_t len, all = 0;
+    do {
+        finish(kalyubos_take_frame(&board, 0, window, into, sizeof into, &len), "take_frame");
+        all += len;
+    } while (len != 0);
+    return all;
+}
+
+static void starve(bool starved, const char *what)
+{
+    for (uint8_t window = ENTROPY; window < WINDOWS; window++) {
+        struct kalyubos_device_pending pending;
+        answers_done(kalyubos_device_pending(&board, 0, window, &pending), "device_pending");
+        need(pending.starved == starved, what, window);
+    }
+}
+
+/* ---- the guest's drivers: each offers one buffer again and again */
+
+static uint8_t *area(uint8_t window, uint32_t queue)
+{
+    return memory + AREA * (2 * window + queue);
+}
+
+static void set(uint8_t window, uint16_t offset, uint32_t value)
+{
+    struct kalyubos_pending pending;
+    finish(kalyubos_write(&board, 0, window, offset, 4, value, &pending), "a driver's write");
+}
+
+static void bring_up(uint8_t window, uint32_t queues)
+{
+    static const uint32_t before[][2] = { { 0x070, 3 }, { 0x024, 1 }, { 0x020, 1 /* VERSION_1 */ }, { 0x070, 11 } };
+    for (size_t i = 0; i < sizeof before / sizeof *before; i++)
+        set(window, (uint16_t)before[i][0], before[i][1]);
+    for (uint32_t queue = 0; queue < queues; queue++) {
+        const uint32_t at = (uint32_t)MEMORY + AREA * (2 * window + queue);
+        const uint32_t writes[][2] = { { 0x030, queue }, { 0x038, PLACES }, { 0x080, at + TABLE }, { 0x090, at + AVAILABLE },
+                                       { 0x0a0, at + USED }, { 0x044, 1 } };
+        for (size_t i = 0; i < sizeof writes / sizeof *writes; i++)
+            set(window, (uint16_t)writes[i][0], writes[i][1]);
+    }
+    set(window, 0x070, 15);
+}
+
+/* Offers so many chains of one buffer, descriptor 0, which the zeroed ring has at each place, and notifies. */
+static void offer(uint8_t window, uint32_t queue, uint32_t len, uint16_t flags, uint16_t chains)
+{
+    const struct {
+        uint64_t addr;
+        uint32_t len;
+        uint16_t flags, next;
+    } buffer = { MEMORY + AREA * (2 * window + queue) + DATA, len, flags, 0 };
+    memcpy(area(window, queue) + TABLE, &buffer, sizeof buffer);
+    memcpy(area(window, queue) + AVAILABLE + 2, &chains, sizeof chains);
+    set(window, NOTIFY, queue);
+}
+
+/* How many chains are used: of those that the host fills one each, and of those of the card and the console that it takes. */
+static void are_used(uint16_t filled, uint16_t frames, uint16_t outputs, const char *what)
+{
+    static const struct { uint8_t window; uint32_t queue; } rows[] = { { ENTROPY, 0 }, { CARD, 0 }, { CONSOLE, 0 }, { CARD, 1 }, { CONSOLE, 1 } };
+    const uint16_t wanted[] = { filled, filled, filled, frames, outputs };
+    for (size_t i = 0; i < sizeof rows / sizeof *rows; i++) {
+        uint16_t idx;
+        memcpy(&idx, area(rows[i].window, rows[i].queue) + USED + 2, sizeof idx);
+        need(idx == wanted[i], what, i);
+    }
+}
+
+/* Each driver waits for its host: for bytes, a frame and input, and for room for a frame and an output more. */
+static void offer_all(void)
+{
+    bring_up(ENTROPY, 1);
+    bring_up(CARD, 2);
+    bring_up(CONSOLE, 2);
+    offer(ENTROPY, 0, BYTES, WRITE, 1);
+    offer(CARD, 0, HEADER + FRAME, WRITE, 1);
+    offer(CONSOLE, 0, BYTES, WRITE, 1);
+    offer(CARD, 1, HEADER + FRAME, 0, FRAMES + 1);
+    offer(CONSOLE, 1, OUTPUT, 0, OUTPUTS + 1);
+    are_used(0, FRAMES, OUTPUTS, "chains that are used at once");
+    starve(true, "a driver that waits");
+}
+
+/* ---- what the host does */
+
+/* All that each driver waits for comes behind the save, and more than it takes. Rolled back it waits again, and the rest is there. */
+static void roll_back(const struct saved *saved)
+{
+    supply(ENTROPY, POOL);
+    supply(CONSOLE, POOL);
+    while (receive())
+        continue;
+    need(take_all(CARD) == (FRAMES + 1) * FRAME && take_all(CONSOLE) == (OUTPUTS + 1) * OUTPUT, "what was sent", 0);
+    are_used(1, FRAMES + 1, OUTPUTS + 1, "chains that are used");
+    restore(saved);
+    are_used(0, FRAMES, OUTPUTS, "chains that were used at the save");
+    starve(false, "a driver that waits for nothing but a service");
+    notify_devices();
+    are_used(1, FRAMES + 1, OUTPUTS + 1, "chains that are used behind a roll-back");
+    need(take_all(CARD) == FRAME && take_all(CONSOLE) == OUTPUT, "what is sent again", 0);
+}
+
+/* What waits is handed in on the board where the guest goes on, before the restore or behind it. */
+static void move(const struct saved *saved, uint32_t chains, bool before)
+{
+    make_board(chains);
+    if (!before)
+        restore(saved);
+    supply(ENTROPY, BYTES);
+    supply(CONSOLE, BYTES);
+    need(receive(), "a frame finds room", 0);
+    if (before)
+        restore(saved);
+    are_used(!before, FRAMES, OUTPUTS, "chains that are used before the host notifies");
+    starve(false, "a driver that has what it waited for");
+    notify_devices();
+    are_used(1, FRAMES + 1, OUTPUTS + 1, "chains that are used on another board");
+    need(take_all(CARD) == FRAME && take_all(CONSOLE) == OUTPUT, "what is sent there", 0);
+    answers_done(kalyubos_destroy(&board), "destroy");
+}
+
+int main(void)
+{
+    static struct saved saved;
+    for (uint32_t chains = 0; chains <= 1; chains++) {
+        make_board(chains);
+        offer_all();
+        save(&saved);
+        roll_back(&saved);
+        answers_done(kalyubos_destroy(&board), "destroy");
+        move(&saved, chains, true);
+        move(&saved, chains, false);
+    }
+    printf("restored: no chain that was on offer at a save stays there, whenever the host supplies its devices\n");
+    return 0;
+}
