@@ -167,10 +167,52 @@ def fault_in(text, line, had_event, first):
     return fault_in_one(text, min(line, 3), had_event, first)
 
 
+@functools.lru_cache(maxsize=1 << 12)
+def names_among(offered, features):
+    return frozenset(name for name in offered if features >> model.FEATURE[name] & 1)
+
+
+def negotiated(window):
+    """The names of a window's features, found once for each choice."""
+    return names_among(tuple(window.offered), window.driver_features) if window.status & model.FEATURES_OK else frozenset()
+
+
+@functools.lru_cache(maxsize=1 << 8)
+def bits_of(offered):
+    return sum(1 << model.FEATURE[name] for name in offered)
+
+
+def offered_bits(window):
+    return bits_of(tuple(window.offered))
+
+
+def flights_of(slots, fields):
+    """What is in flight of the slot that an event names: by its own tags, and by its further disks' numbers and tags."""
+    number = int(fields[0], 16)
+    if number >= len(slots):
+        return (), {}
+    slot = slots[number]
+    further = {f"{at:x}/{tag:x}": asked for at, device in enumerate(slot.devices) if device.tags for tag, asked in enumerate(device.tags) if asked}
+    return [*slot.tags], further
+
+
+def hosted_record_of(slots, word, fields):
+    """A record, and behind it the operations that began with its event; events that begin none are told by one look."""
+    if word in ("r", "mr", "mw", "dr", "sz", "in", "plug", "supply", "frame", "take", "dsent", "link", "dsz"):
+        return f"{model.record_of(slots, word, fields)} -"
+    before, further = flights_of(slots, fields)
+    record = model.record_of(slots, word, fields)
+    now, further_now = flights_of(slots, fields)
+    began = [f"{tag:x}={asked}" for tag, asked in enumerate(now) if asked and asked is not before[tag]]
+    began += [f"{name}={asked}" for name, asked in further_now.items() if asked is not further.get(name)]
+    return f"{record} {';'.join(began) or '-'}"
+
+
 def use():
     """Puts these in the places of the model's and the reader's own."""
     model.Memory, model.descriptor, reader.fault_in = Memory, descriptor, fault_in
     model.Queue.take, model.Queue.give, model.Slot.serve = take, give, serve
+    model.Window.negotiated, model.Window.offered_bits, model.hosted_record_of = negotiated, offered_bits, hosted_record_of
 
 
 FAULT_IN, TAKE, GIVE, SERVE = reader.fault_in, model.Queue.take, model.Queue.give, model.Slot.serve
