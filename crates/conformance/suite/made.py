@@ -131,7 +131,7 @@ def ensure():
     known = state()
     if set(known) == set(tables()) and not stale(known) and all(map(os.path.exists, PAGES)):
         return
-    print(f"The scenarios of the tables are made in {MADE}: some 50 seconds of processor time at first.", file=sys.stderr, flush=True)
+    print(f"The scenarios of the tables are made in {MADE}: about a minute of processor time at first.", file=sys.stderr, flush=True)
     ran = subprocess.run([sys.executable, os.path.join(MATRIX, "make"), "--needed"], stdout=subprocess.PIPE, text=True)
     stamps_in.cache_clear()
     if ran.returncode:
