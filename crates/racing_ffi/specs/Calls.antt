@@ -1,4 +1,4 @@
--- What a call does to the guest behind its handle, whatever that guest writes meanwhile.
+-- What a call does to the guest behind its handle, whatever stood in that guest's memory (`stood`) and whatever it writes meanwhile.
 use Rattle.std.specs.Prelude.{◌≡◌, ℕ, ◌++◌, ◌==◌, ◌↔◌, if◌then◌else◌, false, List, Option, Some, None, MatchOption, Result, IfOk, IsSomeAnd, IsTrue, OnErr, drop, length, min, take}
 use Rattle.block_device.specs.declared.operation.HostEvent.{HostEvent}
 use Rattle.console_device.specs.Input.{fitting}
@@ -49,16 +49,16 @@ pub record Reads (offset width value code : ℕ) (window : GuestWindow) (old new
 
 -- The session takes the write, and the number is that of its answer. It is busy exactly where the write waits for what is in
 -- flight.
-pub record Writes (offset width value code : ℕ) (window : GuestWindow) (old new : RacingSession) : Type 0 where
+pub record Writes (stood : List ℕ) (offset width value code : ℕ) (window : GuestWindow) (old new : RacingSession) : Type 0 where
   pub answer : Result Progress Refusal
-  pub writes : IsWritten window offset width value old new answer
+  pub writes : IsWritten stood window offset width value old new answer
   pub code_is : code ≡ answer_code answer
   pub busy : (code ≡ 19) ↔ IsTrue (write_waits window offset old.guest)
 
 -- what is due is served
-pub record Serves (code : ℕ) (old new : RacingSession) : Type 0 where
+pub record Serves (stood : List ℕ) (code : ℕ) (old new : RacingSession) : Type 0 where
   pub answer : Result Progress Refusal
-  pub serves : GoesOn old new answer
+  pub serves : GoesOn stood old new answer
   pub code_is : code ≡ answer_code answer
 
 -- both interrupt words, and nothing changes
@@ -71,9 +71,9 @@ pub record HasWords (block console code : ℕ) (old new : RacingSession) : Type 
 -- ---- the console
 
 -- Bytes are typed, and so many were taken.
-pub record Types (bytes : List ℕ) (took code : ℕ) (old new : RacingSession) : Type 0 where
+pub record Types (stood bytes : List ℕ) (took code : ℕ) (old new : RacingSession) : Type 0 where
   pub progress : Progress
-  pub typed : IsTyped bytes old new progress
+  pub typed : IsTyped stood bytes old new progress
   pub took_is : took ≡ fitting old.guest.console.device.pending bytes
   pub code_is : code ≡ progress_code progress
 
@@ -93,9 +93,9 @@ pub record MovesOutput (into_old into_new : List ℕ) (taken code : ℕ) (old ne
 
 -- The session is told what the host says of its disk, and the number is that of its answer. Where there is nothing to do it is 21,
 -- and nothing changes.
-pub record Says (said : HostEvent) (code : ℕ) (old new : RacingSession) : Type 0 where
+pub record Says (stood : List ℕ) (said : HostEvent) (code : ℕ) (old new : RacingSession) : Type 0 where
   pub answer : Result Progress Refusal
-  pub said_is : IfOk answer (IsSaid said old new)
+  pub said_is : IfOk answer (IsSaid stood said old new)
   pub kept : OnErr answer (new ≡ old)
   pub code_is : code ≡ answer_code answer
   pub idle : (code ≡ 21) ↔ (has_effect said old.guest.block.disk ≡ false)

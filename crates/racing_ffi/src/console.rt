@@ -1,6 +1,6 @@
 //! A guest's console from the outside: what is typed, its size, and what it puts out.
 
-ghost use Rattle.std.specs.Prelude.{◌≡◌, ◌≢◌};
+ghost use Rattle.std.specs.Prelude.{◌≡◌, ◌≢◌, ℕ, List};
 ghost use Rattle.racing_ffi.specs.Calls.{Calls, MovesOutput, Resizes, Tells, Types};
 
 use crate::codes::{DONE, of_progress};
@@ -17,7 +17,8 @@ pub extern "C" fn kalyubos_guest_input(
     took: &mut usize,
     pending: &mut Pending,
 ) -> u32
-    ensures types { Calls guest.old.session guest.new.session result (Types bytes.now took.new result) }
+    ghost stood: { List ℕ }
+    ensures types { Calls guest.old.session guest.new.session result (Types stood bytes.now took.new result) }
     ensures kept { result ≡ 1 → took.new ≡ took.old }
     ensures pending { Tells guest.new.session pending.old pending.new }
 {

@@ -1,6 +1,6 @@
 //! A guest's disk, which the host serves: what it is asked for, and what the host did.
 
-ghost use Rattle.std.specs.Prelude.{◌≡◌, ◌≢◌, None, IfNone, IfSome};
+ghost use Rattle.std.specs.Prelude.{◌≡◌, ◌≢◌, ℕ, List, None, IfNone, IfSome};
 ghost use Rattle.block_device.specs.declared.operation.HostEvent.{HostEvent};
 ghost use Rattle.c_values.specs.Operation.{verdict_of};
 ghost use Rattle.racing_session.specs.Session.{waits_of};
@@ -63,8 +63,9 @@ pub extern "C" fn kalyubos_guest_completed(
     failed: bool,
     pending: &mut Pending,
 ) -> u32
+    ghost stood: { List ℕ }
     ensures says { Calls guest.old.session guest.new.session result
-        (Says (HostEvent.Complete tag (verdict_of failed)) result) }
+        (Says stood (HostEvent.Complete tag (verdict_of failed)) result) }
     ensures pending { Tells guest.new.session pending.old pending.new }
 {
     let verdict = verdict(failed);
@@ -78,7 +79,8 @@ pub extern "C" fn kalyubos_guest_completed(
 /// Gives up all that is in flight of a guest's disk, and tells what then waits.
 #[unsafe(no_mangle)]
 pub extern "C" fn kalyubos_guest_drop(guest: &mut GuestHandle, pending: &mut Pending) -> u32
-    ensures says { Calls guest.old.session guest.new.session result (Says HostEvent.Drop result) }
+    ghost stood: { List ℕ }
+    ensures says { Calls guest.old.session guest.new.session result (Says stood HostEvent.Drop result) }
     ensures pending { Tells guest.new.session pending.old pending.new }
 {
     say(session_of!(guest), HostEvent::Drop, pending)
@@ -87,7 +89,8 @@ pub extern "C" fn kalyubos_guest_drop(guest: &mut GuestHandle, pending: &mut Pen
 /// Takes no further chain of a guest's disk, and tells what then waits.
 #[unsafe(no_mangle)]
 pub extern "C" fn kalyubos_guest_hold(guest: &mut GuestHandle, pending: &mut Pending) -> u32
-    ensures says { Calls guest.old.session guest.new.session result (Says HostEvent.Hold result) }
+    ghost stood: { List ℕ }
+    ensures says { Calls guest.old.session guest.new.session result (Says stood HostEvent.Hold result) }
     ensures pending { Tells guest.new.session pending.old pending.new }
 {
     say(session_of!(guest), HostEvent::Hold, pending)
@@ -96,7 +99,8 @@ pub extern "C" fn kalyubos_guest_hold(guest: &mut GuestHandle, pending: &mut Pen
 /// Takes chains of a guest's disk again, and tells what then waits.
 #[unsafe(no_mangle)]
 pub extern "C" fn kalyubos_guest_release(guest: &mut GuestHandle, pending: &mut Pending) -> u32
-    ensures says { Calls guest.old.session guest.new.session result (Says HostEvent.Release result) }
+    ghost stood: { List ℕ }
+    ensures says { Calls guest.old.session guest.new.session result (Says stood HostEvent.Release result) }
     ensures pending { Tells guest.new.session pending.old pending.new }
 {
     say(session_of!(guest), HostEvent::Release, pending)
@@ -104,7 +108,8 @@ pub extern "C" fn kalyubos_guest_release(guest: &mut GuestHandle, pending: &mut 
 
 // The host says this of the disk.
 fn say(session: &mut RacingSession, said: HostEvent, pending: &mut Pending) -> u32
-    ensures says { Says said result session.old session.new }
+    ghost stood: { List ℕ }
+    ensures says { Says stood said result session.old session.new }
     ensures pending { pending.new ≡ pending_by (waits_of session.new) }
 {
     let Told { answer, waits } = session.say(said);

@@ -1,6 +1,6 @@
 //! A guest's reads and writes of its devices' registers, and the words that stand for its interrupt lines.
 
-ghost use Rattle.std.specs.Prelude.{◌≡◌, ◌≢◌};
+ghost use Rattle.std.specs.Prelude.{◌≡◌, ◌≢◌, ℕ, List};
 ghost use Rattle.racing_ffi.specs.Calls.{AtWindow, Calls, HasWords, Reads, Serves, Tells, Writes};
 
 use crate::codes::{BAD_WINDOW, DONE, of_answer};
@@ -41,8 +41,9 @@ pub extern "C" fn kalyubos_guest_write(
     value: u32,
     pending: &mut Pending,
 ) -> u32
+    ghost stood: { List ℕ }
     ensures writes { Calls guest.old.session guest.new.session result
-        (AtWindow window result (Writes offset width value result)) }
+        (AtWindow window result (Writes stood offset width value result)) }
     ensures pending { Tells guest.new.session pending.old pending.new }
 {
     let session = session_of!(guest);
@@ -58,7 +59,8 @@ pub extern "C" fn kalyubos_guest_write(
 /// Serves what is due, and tells what then waits.
 #[unsafe(no_mangle)]
 pub extern "C" fn kalyubos_guest_go_on(guest: &mut GuestHandle, pending: &mut Pending) -> u32
-    ensures serves { Calls guest.old.session guest.new.session result (Serves result) }
+    ghost stood: { List ℕ }
+    ensures serves { Calls guest.old.session guest.new.session result (Serves stood result) }
     ensures pending { Tells guest.new.session pending.old pending.new }
 {
     let session = session_of!(guest);

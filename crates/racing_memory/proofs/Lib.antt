@@ -1,3 +1,4 @@
 pub mod Seeing
 pub mod Places
 pub mod Changing
+pub mod Undisturbed

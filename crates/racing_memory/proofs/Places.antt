@@ -17,21 +17,21 @@ use Rattle.racing_memory.specs.Words.{reaches}
 use Rattle.racing_memory.proofs.Seeing.{newest_range, now_is}
 
 -- a range that lies in what was seen last lies in the regions
-inside_regions : (rs : List RegionSpec) (past : List Access) (a n : ℕ) → Inside (newest rs past) a n
+inside_regions : (rs : List RegionSpec) (stood : List ℕ) (past : List Access) (a n : ℕ) → Inside (newest rs stood past) a n
     → Inside (zeroed_regions rs) a n
-inside_regions rs past a n h =
-    inside_same (newest rs past) (zeroed_regions rs) a n
-    (same_back (zeroed_regions rs) (newest rs past) (newest_range rs past)) h
+inside_regions rs stood past a n h =
+    inside_same (newest rs stood past) (zeroed_regions rs) a n
+    (same_back (zeroed_regions rs) (newest rs stood past) (newest_range rs stood past)) h
 
 inside_seen : (s : Seen) (a n : ℕ) → Inside (memory (sightings_of s)) a n → Inside (zeroed_regions s.regions) a n
 inside_seen s a n h =
-    inside_regions s.regions s.past a n (subst (λ (m : Memory). Inside m a n) (now_is s) h)
+    inside_regions s.regions s.stood s.past a n (subst (λ (m : Memory). Inside m a n) (now_is s) h)
 
 -- and the other way
 seen_inside : (s : Seen) (a n : ℕ) → Inside (zeroed_regions s.regions) a n → Inside (memory (sightings_of s)) a n
 seen_inside s a n h =
     subst (λ (m : Memory). Inside m a n) (sym (now_is s))
-    (inside_same (zeroed_regions s.regions) (newest s.regions s.past) a n (newest_range s.regions s.past) h)
+    (inside_same (zeroed_regions s.regions) (newest s.regions s.stood s.past) a n (newest_range s.regions s.stood s.past) h)
 
 tells_seen : (s : Seen) (a n : ℕ) (t : Bool) → IsTrue t ↔ Inside (zeroed_regions s.regions) a n
     → IsTrue t ↔ Inside (memory (sightings_of s)) a n
@@ -78,25 +78,25 @@ region_touched rs a i o x searched some is =
     touches_found (map zeroed_region rs) a i o (zeroed_region x) found some (zeroed_at rs i x at.0 is)
 
 -- the test of a range in a memory of these regions, once one of them is found
-pub room_tells : (rs : List RegionSpec) (past : List Access) (a n i room : ℕ) (o : Option ℕ) (x : RegionSpec) (s : Seen)
-    → MakeMemory rs → record { regions = rs; past = past } ≡ s
+pub room_tells : (rs : List RegionSpec) (stood : List ℕ) (past : List Access) (a n i room : ℕ) (o : Option ℕ) (x : RegionSpec) (s : Seen)
+    → MakeMemory rs → record { regions = rs; stood = stood; past = past } ≡ s
     → o ≡ position (reaches a) rs → o ≡ Some i → x ≡ get_or rs i x
     → a + room ≡ x.base + x.len → IsTrue (nat_le n room) ↔ Inside (memory (sightings_of s)) a n
-room_tells rs past a n i room o x s h view searched some is rest =
+room_tells rs stood past a n i room o x s h view searched some is rest =
     let found = sym (searched ∙ among_zeros rs a) ∙ some in
     let at = found_touches (map zeroed_region rs) a i (zeroed_region x) found in
     subst (λ (s : Seen). IsTrue (nat_le n room) ↔ Inside (memory (sightings_of s)) a n) view
-    (tells_seen (record { regions = rs; past = past }) a n (nat_le n room)
+    (tells_seen (record { regions = rs; stood = stood; past = past }) a n (nat_le n room)
     (found_holds (map zeroed_region rs) a n i room (zeroed_region x) (zeroed_regions rs) refl h found
     (zeroed_at rs i x at.0 is) (rest ∙ sym (end_zeroed x))))
 
 -- and where there is none
-pub none_tells : (rs : List RegionSpec) (past : List Access) (a n : ℕ) (o : Option ℕ) (s : Seen)
-    → MakeMemory rs → record { regions = rs; past = past } ≡ s
+pub none_tells : (rs : List RegionSpec) (stood : List ℕ) (past : List Access) (a n : ℕ) (o : Option ℕ) (s : Seen)
+    → MakeMemory rs → record { regions = rs; stood = stood; past = past } ≡ s
     → o ≡ position (reaches a) rs → o ≡ None → IsTrue false ↔ Inside (memory (sightings_of s)) a n
-none_tells rs past a n o s h view searched none =
+none_tells rs stood past a n o s h view searched none =
     subst (λ (s : Seen). IsTrue false ↔ Inside (memory (sightings_of s)) a n) view
-    (tells_seen (record { regions = rs; past = past }) a n false
+    (tells_seen (record { regions = rs; stood = stood; past = past }) a n false
     (none_inside (map zeroed_region rs) a n o h (searched ∙ among_zeros rs a) none))
 
 -- the place i is one of a region in which the range lies
@@ -106,10 +106,10 @@ pub record IsPlace (rs : List RegionSpec) (i a n : ℕ) : Type 0 where
   pub below : (d : RegionSpec) → a + n ≤ (get_or rs i d).base + (get_or rs i d).len
 
 -- what a search that must find answers
-pub place_found : (rs : List RegionSpec) (past : List Access) (a n i : ℕ) (o : Option ℕ) (s : Seen)
-    → MakeMemory rs → record { regions = rs; past = past } ≡ s → Inside (newest s.regions s.past) a n
+pub place_found : (rs : List RegionSpec) (stood : List ℕ) (past : List Access) (a n i : ℕ) (o : Option ℕ) (s : Seen)
+    → MakeMemory rs → record { regions = rs; stood = stood; past = past } ≡ s → Inside (newest s.regions s.stood s.past) a n
     → o ≡ position (reaches a) rs → i ≡ unwrap_or o 0 → IsPlace s.regions i a n
-place_found rs past a n i o s h view inside searched is =
+place_found rs stood past a n i o s h view inside searched is =
     subst (λ (s : Seen). IsPlace s.regions i a n) view (record {
       within = omega (arith, (found_at none).0, length-map rs zeroed_region);
       above = λ d. (lies d).above;
@@ -122,7 +122,7 @@ place_found rs past a n i o s h view inside searched is =
     found_at : (d : Region) → (i < length (map zeroed_region rs)) × IsIn (get_or (map zeroed_region rs) i d) a n
     found_at d =
         found_inside (map zeroed_region rs) a n d o i h
-        (inside_regions rs past a n (subst (λ (s : Seen). Inside (newest s.regions s.past) a n) (sym view) inside))
+        (inside_regions rs stood past a n (subst (λ (s : Seen). Inside (newest s.regions s.stood s.past) a n) (sym view) inside))
         (searched ∙ among_zeros rs a) is
 
     lies : (d : RegionSpec) → IsIn (zeroed_region (get_or rs i d)) a n
@@ -132,20 +132,20 @@ place_found rs past a n i o s h view inside searched is =
         (get_or-map zeroed_region rs i d (zeroed_region d) (omega (arith, at.0, length-map rs zeroed_region))) at.1
 
 -- a range that lies in the memory ends by 2^64
-pub seen_ends : (rs : List RegionSpec) (past : List Access) (a n : ℕ) (s : Seen) → MakeMemory rs
-    → record { regions = rs; past = past } ≡ s → Inside (memory (sightings_of s)) a n → a + n ≤ 2 ^ 64
-seen_ends rs past a n s h view inside =
+pub seen_ends : (rs : List RegionSpec) (stood : List ℕ) (past : List Access) (a n : ℕ) (s : Seen) → MakeMemory rs
+    → record { regions = rs; stood = stood; past = past } ≡ s → Inside (memory (sightings_of s)) a n → a + n ≤ 2 ^ 64
+seen_ends rs stood past a n s h view inside =
     let none : Region = record { base = 0; bytes = [] } in
     let lies = subst (λ (s : Seen). Inside (memory (sightings_of s)) a n) (sym view) inside in
-    let at = inside_found (map zeroed_region rs) a n none h (inside_seen (record { regions = rs; past = past }) a n lies) in
+    let at = inside_found (map zeroed_region rs) a n none h (inside_seen (record { regions = rs; stood = stood; past = past }) a n lies) in
     omega (arith, at.3.below, region_fits (map zeroed_region rs) at.0 none h at.2)
 
 -- where there is one region, the range lies in it
-pub only_place : (rs : List RegionSpec) (past : List Access) (a n : ℕ) (s : Seen)
-    → MakeMemory rs → record { regions = rs; past = past } ≡ s → Inside (newest s.regions s.past) a n → length rs ≡ 1
+pub only_place : (rs : List RegionSpec) (stood : List ℕ) (past : List Access) (a n : ℕ) (s : Seen)
+    → MakeMemory rs → record { regions = rs; stood = stood; past = past } ≡ s → Inside (newest s.regions s.stood s.past) a n → length rs ≡ 1
     → IsPlace s.regions 0 a n
-only_place rs past a n s h view inside one =
-    let found = place_found rs past a n (unwrap_or (position (reaches a) rs) 0) (position (reaches a) rs) s h view inside refl refl in
+only_place rs stood past a n s h view inside one =
+    let found = place_found rs stood past a n (unwrap_or (position (reaches a) rs) 0) (position (reaches a) rs) s h view inside refl refl in
     let same : length rs ≡ length s.regions = ap (λ (s : Seen). length s.regions) view in
     let first : unwrap_or (position (reaches a) rs) 0 ≡ 0 = omega (arith, found.within, same, one) in
     subst (λ (i : ℕ). IsPlace s.regions i a n) first found

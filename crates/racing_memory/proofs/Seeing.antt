@@ -7,30 +7,32 @@ use Rattle.byteorder.specs.Endian.{little_bytes}
 use Rattle.guest_memory.specs.declared.spec.RegionSpec.{RegionSpec}
 use Rattle.guest_memory.specs.Faults.{zeroed_regions}
 use Rattle.guest_memory.specs.Memory.{Memory, Inside, SameRange, part_of, put}
-use Rattle.guest_memory.proofs.Ranges.{put_range, put_bytes, same_trans}
+use Rattle.guest_memory.proofs.Ranges.{length-put_at, put_range, put_bytes, same_trans}
 use Rattle.shared_memory.specs.Sightings.{Loads, Stores, memory}
 use Rattle.shared_memory.proofs.Sightings.{same_self}
 use Rattle.racing_memory.specs.Past.{Access, Seen, newest, seen_again, sightings_of}
 
 -- whatever was seen last, the range is that of the regions
-pub newest_range : (rs : List RegionSpec) (past : List Access) → SameRange (zeroed_regions rs) (newest rs past)
-newest_range rs [] = same_self (zeroed_regions rs)
-newest_range rs (access ∷ past) =
-    same_trans (zeroed_regions rs) (newest rs past) (newest rs (access ∷ past)) (newest_range rs past)
-    (put_range (newest rs past) access.addr access.bytes)
+pub newest_range : (rs : List RegionSpec) (stood : List ℕ) (past : List Access)
+    → SameRange (zeroed_regions rs) (newest rs stood past)
+newest_range rs stood [] =
+    record { base = refl; size = length-put_at (zeroed_regions rs).bytes 0 stood; gaps = refl }
+newest_range rs stood (access ∷ past) =
+    same_trans (zeroed_regions rs) (newest rs stood past) (newest rs stood (access ∷ past)) (newest_range rs stood past)
+    (put_range (newest rs stood past) access.addr access.bytes)
 
 -- what was seen last stands at the end of the sightings
-pub now_is : (s : Seen) → memory (sightings_of s) ≡ newest s.regions s.past
+pub now_is : (s : Seen) → memory (sightings_of s) ≡ newest s.regions s.stood s.past
 now_is s =
     let none : length s.past - length s.past ≡ 0 = omega arith in
-    ap (λ (k : ℕ). newest s.regions (drop k s.past)) none
+    ap (λ (k : ℕ). newest s.regions s.stood (drop k s.past)) none
 
 -- what was seen before an access stays
 kept : (s : Seen) (a : ℕ) (bs : List ℕ) (k : ℕ) → k ≤ length s.past
     → (sightings_of (seen_again s a bs)).at k ≡ (sightings_of s).at k
 kept s a bs k h =
     let next : suc (length s.past) - k ≡ suc (length s.past - k) = omega (arith, h) in
-    ap (λ (j : ℕ). newest s.regions (drop j (seen_again s a bs).past)) next
+    ap (λ (j : ℕ). newest s.regions s.stood (drop j (seen_again s a bs).past)) next
 
 -- an access adds one sighting
 pub loads_noted : (s : Seen) (a : ℕ) (bs : List ℕ) → Loads true (sightings_of s) (sightings_of (seen_again s a bs))
@@ -45,10 +47,10 @@ loads_noted s a bs = record {
         subst (λ (m : Memory). SameRange (memory (sightings_of s)) m) (sym same) (same_self (memory (sightings_of s)))
     | inr later ↦
         let first : suc (length s.past) - k ≡ 0 = omega (arith, later) in
-        let new : (sightings_of (seen_again s a bs)).at k ≡ put (newest s.regions s.past) a bs =
-        ap (λ (j : ℕ). newest s.regions (drop j (seen_again s a bs).past)) first in
+        let new : (sightings_of (seen_again s a bs)).at k ≡ put (newest s.regions s.stood s.past) a bs =
+        ap (λ (j : ℕ). newest s.regions s.stood (drop j (seen_again s a bs).past)) first in
         subst (λ (m : Memory). SameRange (memory (sightings_of s)) m) (sym new)
-        (rw (now_is s) (put_range (newest s.regions s.past) a bs))
+        (rw (now_is s) (put_range (newest s.regions s.stood s.past) a bs))
   ];
 }
 

@@ -11,7 +11,10 @@ mod past;
 mod region;
 mod word;
 
-pub use laws::good_regions_make_a_memory;
+pub use laws::{
+    a_memory_that_is_left_alone_is_seen_as_it_stood, each_memory_may_stand_there,
+    good_regions_make_a_memory,
+};
 pub use memory::RacingMemory;
 pub use past::Past;
 pub use region::RacingRegion;

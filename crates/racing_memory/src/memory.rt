@@ -1,6 +1,6 @@
 //! The memory, and its accesses.
 
-ghost use Rattle.std.specs.Prelude.{◌≡◌, [], ◌∷◌, ◌+◌, ◌*◌, ◌^◌, ◌≤◌, ◌<◌, length, slice_index_or};
+ghost use Rattle.std.specs.Prelude.{◌≡◌, ℕ, List, [], ◌∷◌, ◌+◌, ◌*◌, ◌^◌, ◌≤◌, ◌<◌, length, slice_index_or};
 ghost use Rattle.std.specs.List.{position};
 ghost use Rattle.byteorder.specs.Endian.{little_bytes};
 ghost use Rattle.guest_memory.specs.Memory.{Inside};
@@ -25,7 +25,7 @@ impl<'r, 'w> Model for RacingMemory<'r, 'w> {
 
     ghost Value = { Seen };
 
-    ghost view = { λ m. record { regions = m.regions.now; past = m.past.accesses } };
+    ghost view = { λ m. record { regions = m.regions.now; stood = m.past.noted.stood; past = m.past.noted.past } };
 
     ghost invariant = { λ m. MakeMemory m.regions.now };
 }
@@ -38,10 +38,11 @@ fn place_of(regions: &[RacingRegion], addr: u64) -> Option<usize>
 }
 
 impl<'r, 'w> RacingMemory<'r, 'w> {
-    /// The memory of these regions, for a call of a device.
+    /// The memory of these regions, for a call of a device, whatever stands there.
     pub fn over(regions: &'r [RacingRegion<'w>]) -> RacingMemory<'r, 'w>
+        ghost stood: { List ℕ }
         requires { MakeMemory regions.now }
-        ensures { result ≡ record { regions = regions.now; past = [] } }
+        ensures { result ≡ record { regions = regions.now; stood = stood; past = [] } }
     {
         RacingMemory {
             regions,
@@ -51,7 +52,8 @@ impl<'r, 'w> RacingMemory<'r, 'w> {
 
     /// The memory of this one region.
     pub fn over_one(region: &'r RacingRegion<'w>) -> RacingMemory<'r, 'w>
-        ensures { result ≡ record { regions = region.now ∷ []; past = [] } }
+        ensures regions { result.regions ≡ region.now ∷ [] }
+        ensures past { result.past ≡ [] }
     {
         region.fits();
         RacingMemory::over(std::slice::from_ref(region))
@@ -59,7 +61,7 @@ impl<'r, 'w> RacingMemory<'r, 'w> {
 
     // The place of the region that holds the `n` bytes from `addr` on.
     fn place_inside(&self, addr: u64, n: u64) -> usize
-        requires { Inside (newest self.now.regions self.now.past) addr n }
+        requires { Inside (newest self.now.regions self.now.stood self.now.past) addr n }
         ensures place { result < length self.now.regions }
         ensures above { (d : _) → (slice_index_or self.now.regions result d).base ≤ addr }
         ensures below { (d : _) → addr + n ≤ (slice_index_or self.now.regions result d).base
@@ -82,7 +84,7 @@ impl<'r, 'w> RacingMemory<'r, 'w> {
     // Stores a number in the `len` bytes from an address on.
     #[inline(always)]
     fn put(&mut self, addr: u64, len: usize, v: u64)
-        requires inside { Inside (newest self.old.regions self.old.past) addr len }
+        requires inside { Inside (newest self.old.regions self.old.stood self.old.past) addr len }
         requires some { 0 < len }
         requires most { len ≤ 8 }
         requires number { v < 2 ^ (8 * len) }

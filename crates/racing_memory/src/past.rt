@@ -1,16 +1,16 @@
 //! What a memory was seen as. Only clauses read it.
 
-ghost use Rattle.std.specs.Prelude.{◌≡◌, List, [], ◌∷◌};
+ghost use Rattle.std.specs.Prelude.{◌≡◌, ℕ, List, [], ◌∷◌};
 ghost use Rattle.std.specs.Borrow.{ftrue};
-ghost use Rattle.racing_memory.specs.Past.{Access};
+ghost use Rattle.racing_memory.specs.Past.{Noted};
 
 use std::marker::{Model, PhantomData};
 
-/// The accesses to a memory, the last one first.
+/// What stood in a memory before the first access, and the accesses, the last one first.
 #[derive(Drop)]
 pub struct Past {
     marker: PhantomData<u8>,
-    pub ghost accesses: { List Access },
+    pub ghost noted: { Noted },
 }
 
 impl Model for Past {
@@ -18,9 +18,10 @@ impl Model for Past {
 }
 
 impl Past {
-    /// The one of a memory that nobody looked at yet.
+    /// The one of a memory that nobody looked at yet, whatever stands there.
     pub(crate) fn new() -> Past
-        ensures { result.accesses ≡ [] }
+        ghost stood: { List ℕ }
+        ensures { result.noted ≡ record { stood = stood; past = [] } }
     {
         Past {
             marker: PhantomData,
@@ -29,6 +30,8 @@ impl Past {
 
     /// These bytes stand from an address on, as an access found or left them.
     pub(crate) fn note(&mut self, _addr: u64, _bytes: &[u8])
-        ensures { self.new.accesses ≡ record { addr = _addr; bytes = _bytes.now } ∷ self.old.accesses }
+        ensures { self.new.noted ≡ record self.old.noted {
+          past = record { addr = _addr; bytes = _bytes.now } ∷ self.old.noted.past;
+        } }
     {}
 }

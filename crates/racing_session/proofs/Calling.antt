@@ -8,7 +8,9 @@ use Rattle.guest_memory.proofs.Ranges.{same_trans}
 use Rattle.chain.specs.declared.budget.Progress as chain
 use Rattle.chain.specs.declared.segment.Segment.{Segment}
 use Rattle.shared_memory.specs.Sightings.{memory}
-use Rattle.racing_memory.specs.Past.{Seen, sightings_of}
+use Rattle.shared_memory.proofs.Sightings.{same_back}
+use Rattle.racing_memory.specs.Past.{Seen, filled, sightings_of}
+use Rattle.racing_memory.proofs.Seeing.{newest_range}
 use Rattle.block_device.specs.declared.operation.HostEvent.{HostEvent}
 use Rattle.block_device.specs.declared.operation.Operation.{Operation}
 use Rattle.block_device.specs.Operation.{LiesInside}
@@ -63,6 +65,29 @@ module _ (guest : RacingGuest) (regions : List RegionSpec) (output : Waiting) (d
       subst (λ s. TellsInside s tag runs) is (λ m same. rw runs_are (told_if m guest tag
       (operation_in (get_or guest.block.disk.tags tag None)) (guest_still (zeroed_regions regions) m guest same sound) refl))
 
+-- ---- the memory of a call
+
+-- a guest that is sound for these regions is so whatever stands there
+pub sound_unseen : (regions : List RegionSpec) (stood : List ℕ) (m : Seen) (guest : RacingGuest)
+    → m ≡ record { regions = regions; stood = stood; past = [] } → IsSoundGuest (zeroed_regions regions) guest
+    → IsSoundGuest (memory (sightings_of m)) guest
+sound_unseen regions stood m guest fresh sound =
+    subst (λ (seen : Seen). IsSoundGuest (memory (sightings_of seen)) guest) (sym fresh)
+    (guest_still (zeroed_regions regions) (filled regions stood) guest (newest_range regions stood []) sound)
+
+-- and behind the call
+pub sound_seen : (regions : List RegionSpec) (stood : List ℕ) (m n : Seen) (guest : RacingGuest)
+    → m ≡ record { regions = regions; stood = stood; past = [] }
+    → SameRange (memory (sightings_of m)) (memory (sightings_of n)) → IsSoundGuest (memory (sightings_of n)) guest
+    → IsSoundGuest (zeroed_regions regions) guest
+sound_seen regions stood m n guest fresh same sound =
+    let old = zeroed_regions regions in
+    let from : SameRange old (memory (sightings_of m)) =
+    subst (λ (seen : Seen). SameRange old (memory (sightings_of seen))) (sym fresh) (newest_range regions stood []) in
+    guest_still (memory (sightings_of n)) old guest
+    (same_back old (memory (sightings_of n)) (same_trans old (memory (sightings_of m)) (memory (sightings_of n)) from same))
+    sound
+
 -- ---- a session behind a call
 
 same_rest : (guest : RacingGuest) (regions : List RegionSpec) (output : Waiting) (limits : LookLimits) (bytes : List ℕ)
@@ -74,17 +99,17 @@ same_rest guest regions output limits bytes limit due due' limited is =
     ∙ ap (λ d. session_of guest regions (record { bytes = bytes; limit = output.limit }) d limits) is
 
 module _ (guest : RacingGuest) (regions : List RegionSpec) (output : Waiting) (due : Due) (limits : LookLimits)
-    (old : RacingSession) (is : session_of guest regions output due limits ≡ old) (m n : Seen)
-    (fresh : m ≡ record { regions = regions; past = [] }) (guest' : RacingGuest) (due' : Due) where
+    (old : RacingSession) (is : session_of guest regions output due limits ≡ old) (stood : List ℕ) (m n : Seen)
+    (fresh : m ≡ record { regions = regions; stood = stood; past = [] }) (guest' : RacingGuest) (due' : Due) where
   pub written : (window : GuestWindow) (offset width value : ℕ) (output' : Waiting) (reply : Reply) (before : ℕ)
       (answer : Result Progress Refusal)
       → WritesGuest window offset width value true limits (Some output.limit) (sightings_of m) (sightings_of n) guest guest'
       output.bytes output'.bytes reply
       → output'.limit ≡ output.limit → due' ≡ due_after reply due → before ≡ in_flight guest
       → answer ≡ answer_by reply (came_to (has_asked before (in_flight guest')) (session_of guest' regions output' due' limits))
-      → IsWritten window offset width value old (session_of guest' regions output' due' limits) answer
+      → IsWritten stood window offset width value old (session_of guest' regions output' due' limits) answer
   written window offset width value output' reply before answer writes limited due_is before_is answer_is =
-      subst (λ s. IsWritten window offset width value s (session_of guest' regions output' due' limits) answer) is (record {
+      subst (λ s. IsWritten stood window offset width value s (session_of guest' regions output' due' limits) answer) is (record {
         reply = reply;
         seen = sightings_of n;
         writes = subst (λ seen. WritesGuest window offset width value true limits (Some output.limit) (sightings_of seen)
@@ -97,9 +122,9 @@ module _ (guest : RacingGuest) (regions : List RegionSpec) (output : Waiting) (d
   pub typed : (bytes : List ℕ) (so_far : chain.Progress) (progress : Progress) (any : Bool)
       → TakesInput bytes true limits (sightings_of m) (sightings_of n) guest guest' so_far
       → due' ≡ due_by queue.Receive so_far due → any ≡ is_any_due due' → progress ≡ progress_by any false
-      → IsTyped bytes old (session_of guest' regions output due' limits) progress
+      → IsTyped stood bytes old (session_of guest' regions output due' limits) progress
   typed bytes so_far progress any takes due_is any_is progress_is =
-      subst (λ s. IsTyped bytes s (session_of guest' regions output due' limits) progress) is (record {
+      subst (λ s. IsTyped stood bytes s (session_of guest' regions output due' limits) progress) is (record {
         so_far = so_far;
         seen = sightings_of n;
         takes = subst (λ seen. TakesInput bytes true limits (sightings_of seen) (sightings_of n) guest guest' so_far) fresh takes;
@@ -111,9 +136,9 @@ module _ (guest : RacingGuest) (regions : List RegionSpec) (output : Waiting) (d
       → IsTold said true limits (sightings_of m) (sightings_of n) guest guest' so_far
       → due' ≡ due_by queue.Block so_far due → any ≡ is_any_due due' → before ≡ in_flight guest → after ≡ in_flight guest'
       → asks ≡ has_asked_by said before after → progress ≡ progress_by any asks
-      → IsSaid said old (session_of guest' regions output due' limits) progress
+      → IsSaid stood said old (session_of guest' regions output due' limits) progress
   told said so_far progress any asks before after tells due_is any_is before_is after_is asks_is progress_is =
-      subst (λ s. IsSaid said s (session_of guest' regions output due' limits) progress) is (record {
+      subst (λ s. IsSaid stood said s (session_of guest' regions output due' limits) progress) is (record {
         so_far = so_far;
         seen = sightings_of n;
         tells = subst (λ seen. IsTold said true limits (sightings_of seen) (sightings_of n) guest guest' so_far) fresh tells;
@@ -129,8 +154,8 @@ abbrev pub between : RacingGuest → Waiting → Seen → Between
 between guest output m = record { guest = guest; output = output.bytes; seen = sightings_of m }
 
 module _ (guest : RacingGuest) (regions : List RegionSpec) (output : Waiting) (due : Due) (limits : LookLimits)
-    (old : RacingSession) (is : session_of guest regions output due limits ≡ old) (m m1 m2 m3 : Seen)
-    (fresh : m ≡ record { regions = regions; past = [] }) (g1 g2 g3 : RacingGuest) (o1 o2 o3 : Waiting)
+    (old : RacingSession) (is : session_of guest regions output due limits ≡ old) (stood : List ℕ) (m m1 m2 m3 : Seen)
+    (fresh : m ≡ record { regions = regions; stood = stood; past = [] }) (g1 g2 g3 : RacingGuest) (o1 o2 o3 : Waiting)
     (r1 r2 r3 : Reply) where
   -- as far as the last service
   pub sound_behind : SameRange (memory (sightings_of m)) (memory (sightings_of m1))
@@ -140,8 +165,7 @@ module _ (guest : RacingGuest) (regions : List RegionSpec) (output : Waiting) (d
   sound_behind first second third sound =
       let a = memory (sightings_of m) in let d = memory (sightings_of m3) in
       let all : SameRange a d = same_trans a _ d (same_trans a _ _ first second) third in
-      let back : SameRange d a = record { base = sym all.base; size = sym all.size; gaps = sym all.gaps } in
-      subst (λ seen. IsSoundGuest (memory (sightings_of seen)) g3) fresh (guest_still d a g3 back sound)
+      sound_seen regions stood m m3 g3 fresh all sound
 
   pub goes_on : (d1 d2 d3 none : Due) (before : ℕ) (answer : Result Progress Refusal)
       → ServesIf due.block limits output.limit queue.Block (between guest output m) (between g1 o1 m1) r1
@@ -151,9 +175,9 @@ module _ (guest : RacingGuest) (regions : List RegionSpec) (output : Waiting) (d
       → none ≡ none_due → d1 ≡ due_after r1 none → d2 ≡ due_after r2 d1 → d3 ≡ due_after r3 d2
       → before ≡ in_flight guest
       → answer ≡ answer_by r3 (came_to (has_asked before (in_flight g3)) (session_of g3 regions o3 d3 limits))
-      → GoesOn old (session_of g3 regions o3 d3 limits) answer
+      → GoesOn stood old (session_of g3 regions o3 d3 limits) answer
   goes_on d1 d2 d3 none before answer block receive transmit l1 l2 l3 n e1 e2 e3 before_is answer_is =
-      subst (λ s. GoesOn s (session_of g3 regions o3 d3 limits) answer) is (record {
+      subst (λ s. GoesOn stood s (session_of g3 regions o3 d3 limits) answer) is (record {
         looked = between g1 o1 m1;
         received = between g2 o2 m2;
         transmitted = between g3 o3 m3;

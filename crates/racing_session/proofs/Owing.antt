@@ -1,5 +1,5 @@
 -- What is due stays so until it is served, and a service makes no other queue due.
-use Rattle.std.proofs.Common.{◌≡◌, ◌∙◌, ℕ, Bool, true, false, Result, inl, inr, refl, ap, subst}
+use Rattle.std.proofs.Common.{◌≡◌, ◌∙◌, ℕ, Bool, true, false, List, Result, inl, inr, refl, ap, subst}
 use Rattle.std.specs.Prelude.{◌⊎◌}
 use Rattle.chain.specs.declared.budget.Progress as chain
 use Rattle.chain.specs.declared.budget.Progress.TheVariants as progress
@@ -84,9 +84,10 @@ left true limits limit Transmit queue before after NoMemory due serves is =
 was_due : (queue served : GuestQueue) (due : Due) → (queue ≡ served) × (is_due served due ≡ true) → is_due queue due ≡ true
 was_due queue served due is = ap (λ q. is_due q due) is.0 ∙ is.1
 
-pub no_other : (queue : GuestQueue) (old new : RacingSession) (answer : Result Progress Refusal) → GoesOn old new answer
+pub no_other : (queue : GuestQueue) (stood : List ℕ) (old new : RacingSession) (answer : Result Progress Refusal)
+    → GoesOn stood old new answer
     → is_due queue new.due ≡ true → is_due queue old.due ≡ true
-no_other queue old new answer goes is =
+no_other queue stood old new answer goes is =
     third (left old.due.transmit old.limits old.output.limit Transmit queue _ _ goes.reply_transmit second_due goes.transmit
     (subst (λ (s : RacingSession). is_due queue s.due ≡ true) goes.rest is))
   where

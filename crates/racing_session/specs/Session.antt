@@ -44,9 +44,10 @@ new_session spec = record {
   limits = spec.limits;
 }
 
--- A memory of these regions before a call looks at it. It is taken for zeros until then: what stands there is the guest's.
-abbrev pub unseen : List RegionSpec → Sightings
-unseen regions = sightings_of (record { regions = regions; past = [] })
+-- A memory of these regions before a call looks at it: these bytes stand there, from its first address on. Each clause holds of
+-- whatever bytes.
+abbrev pub unseen : List RegionSpec → List ℕ → Sightings
+unseen regions stood = sightings_of (record { regions = regions; stood = stood; past = [] })
 
 -- a memory of the session's regions, whatever stands there
 abbrev pub IsMemoryOf : RacingSession → Memory → Type 0
@@ -84,11 +85,11 @@ came_to asks session = progress_by (is_any_due session.due) asks
 -- ---- registers
 
 -- A write: the guest's, from a memory of the session's regions on. What it leaves is due beside what was.
-pub record IsWritten (window : GuestWindow) (offset width value : ℕ) (old new : RacingSession)
+pub record IsWritten (stood : List ℕ) (window : GuestWindow) (offset width value : ℕ) (old new : RacingSession)
     (answer : Result Progress Refusal) : Type 0 where
   pub reply : Reply
   pub seen : Sightings
-  pub writes : WritesGuest window offset width value true old.limits (Some old.output.limit) (unseen old.regions) seen
+  pub writes : WritesGuest window offset width value true old.limits (Some old.output.limit) (unseen old.regions stood) seen
       old.guest new.guest old.output.bytes new.output.bytes reply
   pub rest : new ≡ with_guest new.guest new.output.bytes (due_after reply old.due) old
   pub answer_is : answer ≡ answer_by reply (came_to (has_asked (in_flight old.guest) (in_flight new.guest)) new)
@@ -108,7 +109,7 @@ ServesIf true limits limit queue before after reply = IsServedAgain true limits 
 ServesIf false limits limit queue before after reply = (after ≡ before) × (reply ≡ Done)
 
 -- Each queue that is due is served once, one after another. What these services leave is due then, and nothing else.
-pub record GoesOn (old new : RacingSession) (answer : Result Progress Refusal) : Type 0 where
+pub record GoesOn (stood : List ℕ) (old new : RacingSession) (answer : Result Progress Refusal) : Type 0 where
   pub looked : Between
   pub received : Between
   pub transmitted : Between
@@ -116,7 +117,7 @@ pub record GoesOn (old new : RacingSession) (answer : Result Progress Refusal) :
   pub reply_receive : Reply
   pub reply_transmit : Reply
   pub block : ServesIf old.due.block old.limits old.output.limit queue.Block
-      (record { guest = old.guest; output = old.output.bytes; seen = unseen old.regions }) looked reply_block
+      (record { guest = old.guest; output = old.output.bytes; seen = unseen old.regions stood }) looked reply_block
   pub receive : ServesIf old.due.receive old.limits old.output.limit queue.Receive looked received reply_receive
   pub transmit : ServesIf old.due.transmit old.limits old.output.limit queue.Transmit received transmitted reply_transmit
   pub rest : new ≡ with_guest transmitted.guest transmitted.output
@@ -126,17 +127,17 @@ pub record GoesOn (old new : RacingSession) (answer : Result Progress Refusal) :
 -- ---- what comes from outside
 
 -- What is typed becomes pending, as much of it as fits, and the receive queue is served.
-pub record IsTyped (bytes : List ℕ) (old new : RacingSession) (progress : Progress) : Type 0 where
+pub record IsTyped (stood bytes : List ℕ) (old new : RacingSession) (progress : Progress) : Type 0 where
   pub so_far : chain.Progress
   pub seen : Sightings
-  pub takes : TakesInput bytes true old.limits (unseen old.regions) seen old.guest new.guest so_far
+  pub takes : TakesInput bytes true old.limits (unseen old.regions stood) seen old.guest new.guest so_far
   pub rest : new ≡ with_guest new.guest old.output.bytes (due_by queue.Receive so_far old.due) old
   pub progress_is : progress ≡ came_to false new
 
 -- The host says something of the disk.
-pub record IsSaid (said : HostEvent) (old new : RacingSession) (progress : Progress) : Type 0 where
+pub record IsSaid (stood : List ℕ) (said : HostEvent) (old new : RacingSession) (progress : Progress) : Type 0 where
   pub so_far : chain.Progress
   pub seen : Sightings
-  pub tells : IsTold said true old.limits (unseen old.regions) seen old.guest new.guest so_far
+  pub tells : IsTold said true old.limits (unseen old.regions stood) seen old.guest new.guest so_far
   pub rest : new ≡ with_guest new.guest old.output.bytes (due_by queue.Block so_far old.due) old
   pub progress_is : progress ≡ came_to (has_asked_by said (in_flight old.guest) (in_flight new.guest)) new

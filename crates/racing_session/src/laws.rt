@@ -24,13 +24,13 @@ pub fn what_the_host_is_told_lies_inside()
 
 /// A queue that is due stays so until `go_on` serves it, which makes no queue due that wasn't.
 pub fn what_is_due_stays()
-    ensures write { (queue : GuestQueue) (window : GuestWindow) (offset width value : ℕ) (old new : RacingSession)
-        (answer : Result Progress Refusal) → IsWritten window offset width value old new answer
+    ensures write { (queue : GuestQueue) (stood : List ℕ) (window : GuestWindow) (offset width value : ℕ) (old new : RacingSession)
+        (answer : Result Progress Refusal) → IsWritten stood window offset width value old new answer
         → is_due queue old.due ≡ true → is_due queue new.due ≡ true }
-    ensures input { (queue : GuestQueue) (bytes : List ℕ) (old new : RacingSession) (progress : Progress)
-        → IsTyped bytes old new progress → is_due queue old.due ≡ true → is_due queue new.due ≡ true }
-    ensures told { (queue : GuestQueue) (said : HostEvent) (old new : RacingSession) (progress : Progress)
-        → IsSaid said old new progress → is_due queue old.due ≡ true → is_due queue new.due ≡ true }
-    ensures go_on { (queue : GuestQueue) (old new : RacingSession) (answer : Result Progress Refusal)
-        → GoesOn old new answer → is_due queue new.due ≡ true → is_due queue old.due ≡ true }
+    ensures input { (queue : GuestQueue) (stood bytes : List ℕ) (old new : RacingSession) (progress : Progress)
+        → IsTyped stood bytes old new progress → is_due queue old.due ≡ true → is_due queue new.due ≡ true }
+    ensures told { (queue : GuestQueue) (stood : List ℕ) (said : HostEvent) (old new : RacingSession) (progress : Progress)
+        → IsSaid stood said old new progress → is_due queue old.due ≡ true → is_due queue new.due ≡ true }
+    ensures go_on { (queue : GuestQueue) (stood : List ℕ) (old new : RacingSession) (answer : Result Progress Refusal)
+        → GoesOn stood old new answer → is_due queue new.due ≡ true → is_due queue old.due ≡ true }
 {}

@@ -1,6 +1,6 @@
 //! A guest's memory: its regions, and the words of each, which its host lends.
 
-ghost use Rattle.std.specs.Prelude.{◌≡◌, ◌↔◌, ◌*◌, [], IsTrue, Some, length, map, take};
+ghost use Rattle.std.specs.Prelude.{◌≡◌, ◌↔◌, ◌*◌, ℕ, List, [], IsTrue, Some, length, map, take};
 ghost use Rattle.std.specs.List.{slice_get};
 ghost use Rattle.std.specs.Vec.{vec_items};
 ghost use Rattle.guest_memory.specs.Faults.{AreGood};
@@ -65,10 +65,11 @@ impl<A: Allocator> LentMemory<A> {
         ]
     }
 
-    /// The memory of these regions, for one call.
+    /// The memory of these regions, for one call, whatever stands there.
     pub(crate) fn over<'r, 'w>(&self, regions: &'r [RacingRegion<'w>]) -> RacingMemory<'r, 'w>
+        ghost stood: { List ℕ }
         requires { take (length self.now) regions.now ≡ self.now }
-        ensures { result ≡ record { regions = self.now; past = [] } }
+        ensures { result ≡ record { regions = self.now; stood = stood; past = [] } }
     {
         good_regions_make_a_memory();
         RacingMemory::over(&regions[..self.words.len()])

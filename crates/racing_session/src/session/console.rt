@@ -1,6 +1,6 @@
 //! What is typed to the console and what it put out.
 
-ghost use Rattle.std.specs.Prelude.{◌≡◌, ◌++◌, length, min, take, drop};
+ghost use Rattle.std.specs.Prelude.{◌≡◌, ◌++◌, ℕ, List, length, min, take, drop};
 ghost use Rattle.console_device.specs.Input.{fitting};
 ghost use Rattle.racing_guest.specs.Console.{with_size};
 ghost use Rattle.racing_session.specs.Session.{IsTyped, waits_of};
@@ -15,8 +15,9 @@ impl<A: Allocator> RacingSession<A> {
     /// Types bytes to the guest's console, and answers how many were taken: the first ones. A console keeps 4096 until its guest
     /// reads them.
     pub fn input(&mut self, bytes: &[u8]) -> Typed
+        ghost stood: { List ℕ }
         ensures taken { result.taken ≡ fitting self.old.guest.console.device.pending bytes.now }
-        ensures typed { IsTyped bytes.now self.old self.new result.progress }
+        ensures typed { IsTyped stood bytes.now self.old self.new result.progress }
         ensures waits { result.waits ≡ waits_of self.new }
     {
         let regions = self.memory.regions();

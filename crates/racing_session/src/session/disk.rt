@@ -1,6 +1,6 @@
 //! What the host is asked to do with the guest's disk, and what it says of it.
 
-ghost use Rattle.std.specs.Prelude.{◌≡◌, None, get_or, IfOk, IfErr, IfSome, OnErr, is_ok};
+ghost use Rattle.std.specs.Prelude.{◌≡◌, ℕ, List, None, get_or, IfOk, IfErr, IfSome, OnErr, is_ok};
 ghost use Rattle.guest_memory.specs.Memory.{Memory};
 ghost use Rattle.block_device.specs.Operation.{LiesInside};
 ghost use Rattle.block_device.specs.declared.operation.HostEvent.{HostEvent};
@@ -21,8 +21,9 @@ impl<A: Allocator> RacingSession<A> {
     /// Completes what is in flight with this tag, by what came of it. Then the device looks at its queue again, and operations may
     /// begin, this tag's among them. It is refused where the tag is free.
     pub fn completed(&mut self, tag: u8, verdict: Verdict) -> Told
+        ghost stood: { List ℕ }
         ensures found { is_ok result.answer ≡ has_effect (HostEvent.Complete tag verdict) self.old.guest.block.disk }
-        ensures said { IfOk result.answer (IsSaid (HostEvent.Complete tag verdict) self.old self.new) }
+        ensures said { IfOk result.answer (IsSaid stood (HostEvent.Complete tag verdict) self.old self.new) }
         ensures idle { IfErr result.answer (λ why. why ≡ Refusal.Idle) }
         ensures kept { OnErr result.answer (self.new ≡ self.old) }
         ensures waits { result.waits ≡ waits_of self.new }
@@ -33,8 +34,9 @@ impl<A: Allocator> RacingSession<A> {
     /// Gives up what is in flight, as no transfer touches the guest's memory any more: its tags are free, and the device asks to
     /// be reset. It is refused where nothing is in flight.
     pub fn dropped(&mut self) -> Told
+        ghost stood: { List ℕ }
         ensures found { is_ok result.answer ≡ has_effect HostEvent.Drop self.old.guest.block.disk }
-        ensures said { IfOk result.answer (IsSaid HostEvent.Drop self.old self.new) }
+        ensures said { IfOk result.answer (IsSaid stood HostEvent.Drop self.old self.new) }
         ensures idle { IfErr result.answer (λ why. why ≡ Refusal.Idle) }
         ensures kept { OnErr result.answer (self.new ≡ self.old) }
         ensures waits { result.waits ≡ waits_of self.new }
@@ -45,8 +47,9 @@ impl<A: Allocator> RacingSession<A> {
     /// Has no further chain of the disk taken until `release`. What is in flight is completed as ever. It is refused where the disk
     /// is on hold.
     pub fn hold(&mut self) -> Told
+        ghost stood: { List ℕ }
         ensures found { is_ok result.answer ≡ has_effect HostEvent.Hold self.old.guest.block.disk }
-        ensures said { IfOk result.answer (IsSaid HostEvent.Hold self.old self.new) }
+        ensures said { IfOk result.answer (IsSaid stood HostEvent.Hold self.old self.new) }
         ensures idle { IfErr result.answer (λ why. why ≡ Refusal.Idle) }
         ensures kept { OnErr result.answer (self.new ≡ self.old) }
         ensures waits { result.waits ≡ waits_of self.new }
@@ -57,8 +60,9 @@ impl<A: Allocator> RacingSession<A> {
     /// Has chains of the disk taken again: the device looks at its queue, and operations may begin. It is refused where the disk
     /// isn't on hold.
     pub fn release(&mut self) -> Told
+        ghost stood: { List ℕ }
         ensures found { is_ok result.answer ≡ has_effect HostEvent.Release self.old.guest.block.disk }
-        ensures said { IfOk result.answer (IsSaid HostEvent.Release self.old self.new) }
+        ensures said { IfOk result.answer (IsSaid stood HostEvent.Release self.old self.new) }
         ensures idle { IfErr result.answer (λ why. why ≡ Refusal.Idle) }
         ensures kept { OnErr result.answer (self.new ≡ self.old) }
         ensures waits { result.waits ≡ waits_of self.new }
@@ -68,8 +72,9 @@ impl<A: Allocator> RacingSession<A> {
 
     /// The host says this of the disk: `completed`, `dropped`, `hold` or `release`.
     pub fn say(&mut self, said: HostEvent) -> Told
+        ghost stood: { List ℕ }
         ensures found { is_ok result.answer ≡ has_effect said self.old.guest.block.disk }
-        ensures said { IfOk result.answer (IsSaid said self.old self.new) }
+        ensures said { IfOk result.answer (IsSaid stood said self.old self.new) }
         ensures idle { IfErr result.answer (λ why. why ≡ Refusal.Idle) }
         ensures kept { OnErr result.answer (self.new ≡ self.old) }
         ensures waits { result.waits ≡ waits_of self.new }

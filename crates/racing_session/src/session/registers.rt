@@ -1,6 +1,6 @@
 //! What a guest does to its devices' registers, what is due of that, and the words that stand for its interrupt lines.
 
-ghost use Rattle.std.specs.Prelude.{◌≡◌, ◌↔◌, IsErrOf, IsTrue};
+ghost use Rattle.std.specs.Prelude.{◌≡◌, ◌↔◌, ℕ, List, IsErrOf, IsTrue};
 ghost use Rattle.guest_memory.specs.Memory.{SameRange};
 ghost use Rattle.mmio_window.specs.Interrupts.{interrupt_bits};
 ghost use Rattle.shared_memory.specs.Sightings.{memory};
@@ -34,7 +34,8 @@ impl<A: Allocator> RacingSession<A> {
     /// console puts out doesn't fit behind what waits the write is refused: the chain stays on offer, those before it are served,
     /// and its queue is due.
     pub fn write(&mut self, window: GuestWindow, offset: u16, width: u8, value: u32) -> Told
-        ensures writes { IsWritten window offset width value self.old self.new result.answer }
+        ghost stood: { List ℕ }
+        ensures writes { IsWritten stood window offset width value self.old self.new result.answer }
         ensures busy { IsErrOf result.answer Refusal.Busy ↔ IsTrue (write_waits window offset self.old.guest) }
         ensures waits { result.waits ≡ waits_of self.new }
     {
@@ -51,7 +52,8 @@ impl<A: Allocator> RacingSession<A> {
     /// Serves each queue that is due once: the block device's, the console's for input and that for output. What is left then is
     /// due again.
     pub fn go_on(&mut self) -> Told
-        ensures goes_on { GoesOn self.old self.new result.answer }
+        ghost stood: { List ℕ }
+        ensures goes_on { GoesOn stood self.old self.new result.answer }
         ensures waits { result.waits ≡ waits_of self.new }
     {
         let before = self.guest.taken();

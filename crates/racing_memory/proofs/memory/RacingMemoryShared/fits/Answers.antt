@@ -3,5 +3,5 @@ use Rattle.racing_memory.proofs.memory.RacingMemoryShared.fits.Goals as goal
 
 pub returns : goal.returns
 returns c =
-    seen_ends c.self.inside.regions.now c.self.inside.past.accesses c.args.addr c.args.n c.args.self.now
+    seen_ends c.self.inside.regions.now c.self.inside.past.noted.stood c.self.inside.past.noted.past c.args.addr c.args.n c.args.self.now
     c.self.invariant c.self.view_is c.requires

@@ -52,7 +52,7 @@ module _ {M : Type 1} {𝓤 : Ura M} (𝓛 : Logic 𝓤) (at_mem : Memory → SP
   x = (record { ref_ptr = (b, o); ghost_name = γ; now = h }, (a, (s, tt)))
 
   abbrev h' : Past
-  h' = record { marker = h.marker; accesses = record { addr = a; bytes = s.now } ∷ h.accesses }
+  h' = record { marker = h.marker; noted = record h.noted { past = record { addr = a; bytes = s.now } ∷ h.noted.past } }
 
   abbrev at : List Val × (List Val × (List Val × Unit {0}))
   at = (vptr b o ∷ [], (vint w64 a ∷ [], (slice_val s.ref_ptr (length s.now) ∷ [], tt)))

@@ -1,17 +1,22 @@
-use Rattle.racing_session.proofs.Calling.{goes_on, sound_behind}
+use Rattle.racing_session.proofs.Calling.{goes_on, sound_behind, sound_unseen}
 use Rattle.racing_session.proofs.session.RacingSession.go_on.Goals as goal
+
+pub serve_if-block-requires : goal.serve_if-block-requires
+serve_if-block-requires g c =
+    let s = c.self.inside in
+    record { sound = sound_unseen s.memory g.stood c.over-mem.result s.guest c.over-mem.ensures c.self.invariant }
 
 pub invariant_of-self : goal.invariant_of-self
 invariant_of-self g c =
     let s = c.self.inside in let a = c.serve_if-block in let b = c.serve_if-receive in let d = c.serve_if-transmit in
-    sound_behind s.guest s.memory s.output s.due s.limits c.args.self.now c.self.view_is c.over-mem.result a.new.mem b.new.mem
+    sound_behind s.guest s.memory s.output s.due s.limits c.args.self.now c.self.view_is g.stood c.over-mem.result a.new.mem b.new.mem
     d.new.mem c.over-mem.ensures a.new.guest b.new.guest d.new.guest a.new.out b.new.out d.new.out a.result b.result d.result
     a.ensures.range b.ensures.range d.ensures.range d.ensures.sound
 
 pub returns-clause-goes_on : goal.returns-clause-goes_on
 returns-clause-goes_on g c =
     let s = c.self.inside in let a = c.serve_if-block in let b = c.serve_if-receive in let d = c.serve_if-transmit in
-    goes_on s.guest s.memory s.output s.due s.limits c.args.self.now c.self.view_is c.over-mem.result a.new.mem b.new.mem
+    goes_on s.guest s.memory s.output s.due s.limits c.args.self.now c.self.view_is g.stood c.over-mem.result a.new.mem b.new.mem
     d.new.mem c.over-mem.ensures a.new.guest b.new.guest d.new.guest a.new.out b.new.out d.new.out a.result b.result d.result
     c.after.result c.after-2.result c.after-self-inside.result c.none.result c.taken-before.result c.told.result.answer
     a.ensures.serves b.ensures.serves d.ensures.serves a.ensures.limit b.ensures.limit d.ensures.limit c.none.ensures

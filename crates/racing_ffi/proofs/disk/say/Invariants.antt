@@ -1,0 +1,4 @@
+use Rattle.racing_ffi.proofs.disk.say.Given as goal
+
+abbrev pub ghost-say : goal.ghost-say
+ghost-say g a = g.stood
