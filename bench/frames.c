@@ -148,9 +148,28 @@ static void time_of(const char *what, void (*work)(int), int count)
     printf("%4zu bytes %-42s %8.1f ns\n", frame_len, what, best);
 }
 
-int main(void)
+/* What is counted of one frame alone: `frames WAY FRAMES`. */
+static const struct { const char *name; void (*work)(int); int count; } WAYS[] = {
+    { "out", out, 1 }, { "out-32", out, BURST }, { "in", in, 1 }, { "in-32", in, BURST },
+};
+
+static void make(const char *way, int frames)
+{
+    open_board(SHORT);
+    for (size_t i = 0; i < sizeof WAYS / sizeof *WAYS; i++)
+        if (strcmp(WAYS[i].name, way) == 0)
+            for (int made = 0; made < frames; made += WAYS[i].count)
+                WAYS[i].work(WAYS[i].count);
+    must(kalyubos_destroy(&board));
+}
+
+int main(int words_len, char **words)
 {
     const size_t lengths[] = { SHORT, LONG };
+    if (words_len == 3) {
+        make(words[1], atoi(words[2]));
+        return 0;
+    }
     for (size_t i = 0; i < sizeof lengths / sizeof *lengths; i++) {
         open_board(lengths[i]);
         time_of("out: offered, notified, taken", out, 1);
