@@ -124,8 +124,10 @@ static void open_file(struct guest *guest)
 
 /* ---- exits, and services that pause */
 
+/* What the file's steps came to is looked at once a service that was paused has ended, so that each run of this host is the same. */
 static void settle(struct guest *guest, uint32_t answer)
 {
+    bool was_paused = guest->paused;
     guest->paused = answer == KALYUBOS_MORE;
     if (answer == KALYUBOS_IO)
         begin_operations(guest);
@@ -133,7 +135,8 @@ static void settle(struct guest *guest, uint32_t answer)
     if (guest->paused)
         return;
     complete_ended(guest);
-    go_on_with_file(guest);
+    if (was_paused)
+        go_on_with_file(guest);
 }
 
 static void store(struct guest *guest, uint8_t window, uint16_t offset, uint32_t value)
