@@ -5,10 +5,15 @@ ghost use Rattle.hexadecimal.specs.Fields.{ArePairs, IsBytesField, IsDigit, Spel
 
 use crate::pairs::read_pairs;
 
-/// How many bytes are judged at once in a long field, and in a short one.
+/// How many bytes are judged at once at a field's front, behind it, and in a long field.
+const SHORT_BLOCK: usize = 16;
+
+const MIDDLE_BLOCK: usize = 32;
+
 const LONG_BLOCK: usize = 64;
 
-const SHORT_BLOCK: usize = 16;
+/// A field of so many digits is a long one.
+const LONG_FIELD: usize = 4 * LONG_BLOCK;
 
 /// How many digits stand at the front of a text.
 pub fn digits_len(text: &[u8]) -> usize
@@ -16,15 +21,28 @@ pub fn digits_len(text: &[u8]) -> usize
     ensures digits { All IsDigit (take result text.now) }
     ensures all { result < length text.now → ¬ IsDigit (slice_index_or text.now result 0) }
 {
-    let mut n = past_blocks(text, 0, SHORT_BLOCK, LONG_BLOCK);
-    if n == LONG_BLOCK {
-        let past = past_blocks(text, n, LONG_BLOCK, usize::MAX);
-        n = past_blocks(text, past, SHORT_BLOCK, usize::MAX);
+    let mut n = past_blocks(text, 0, SHORT_BLOCK, MIDDLE_BLOCK);
+    if n == MIDDLE_BLOCK {
+        let past = past_blocks(text, n, MIDDLE_BLOCK, LONG_FIELD);
+        n = past_blocks(text, past_long(text, past), SHORT_BLOCK, usize::MAX);
     }
     while n < text.len() && is_digit(text[n]) {
         n += 1;
     }
     n
+}
+
+// Where they end in a long field, of which so many digits were judged.
+fn past_long(text: &[u8], past: usize) -> usize
+    requires within { past ≤ length text.now }
+    requires digits { All IsDigit (take past text.now) }
+    ensures within { result ≤ length text.now }
+    ensures digits { All IsDigit (take result text.now) }
+{
+    if past < LONG_FIELD {
+        return past;
+    }
+    past_blocks(text, past, LONG_BLOCK, usize::MAX)
 }
 
 // Where the digits end that stand in whole blocks from here on, or the first end of a block from `most` on. It is read into its
