@@ -158,10 +158,11 @@ impl Chain {
             return Err(Fault::TooLong);
         }
         self.starts[filled + 1] = start.behind(len, writable);
-        self.room.as_mut_slice()[filled] = Buffer {
-            segment: Segment { addr, len },
-            writable,
-        };
+        // Field by field, so that what pads them isn't stored.
+        let buffer = &mut self.room.as_mut_slice()[filled];
+        buffer.segment.addr = addr;
+        buffer.segment.len = len;
+        buffer.writable = writable;
         self.filled = filled + 1;
         Ok(())
     }
