@@ -4,8 +4,7 @@ use Rattle.std.specs.List.{slice_get}
 use Rattle.std.specs.Borrow.{Lends, MutBor, Fml, Array, u8}
 use Rattle.std.specs.declared.alloc.Allocator.{Ghosts}
 use denote.RattleType.{RattleType}
-use Rattle.guest_memory.specs.Memory.{stored}
-use Rattle.guest_memory.specs.Stock.{with_pages}
+use Rattle.guest_memory.specs.Memory.{stored, with_pages}
 use Rattle.board.specs.Slot.{BoardSlot}
 use Rattle.board.specs.World.{BoardState}
 use Rattle.board.specs.contracts.slot.Slot.{the_row as slot_row}

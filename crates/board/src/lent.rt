@@ -30,9 +30,9 @@ pub(crate) fn memory<A: Allocator + Copy>(
         let Some(run) = bytes.next() else {
             unreachable!()
         };
-        made.push(Region::new(region.base, run))?;
+        made.push(Region::of_lent(region.base, run))?;
     }
-    match GuestMemory::of_lent(alloc, made) {
+    match GuestMemory::of_regions(alloc, made) {
         Ok(memory) => Ok(memory),
         Err(_) => Err(AllocError),
     }

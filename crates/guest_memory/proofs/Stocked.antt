@@ -1,48 +1,12 @@
--- Of a memory's own regions and lent ones there is one kind. So a memory has one list of regions, whichever
--- it is.
-use Rattle.std.proofs.Common.{◌≡◌, ◌↔◌, ◌==◌, ◌<◌, ◌≤◌, ◌+◌, ◌-◌, ◌^◌, ℕ, Bool, true, false, List, [], ◌∷◌, length, take, drop, get_or, set, refl, sym, ◌∙◌, ap, subst, arith}
+-- A memory by its list of regions: where a range lies, what is read there, and what a write makes of it.
+use Rattle.std.proofs.Common.{◌≡◌, ◌↔◌, ◌==◌, ◌<◌, ◌≤◌, ◌+◌, ◌-◌, ◌^◌, ℕ, Bool, true, List, [], ◌∷◌, length, take, drop, get_or, set, refl, sym, ◌∙◌, ap, subst, arith}
 use Rattle.std.specs.Prelude.{IsTrue}
 use Rattle.std.proofs.lemmas.Bool.Decides.{nat_tests}
-use Rattle.std.proofs.lemmas.List.{length-set}
-use Rattle.guest_memory.specs.Memory.{Memory, Inside, part_of, stored, with_marks}
+use Rattle.guest_memory.specs.Memory.{Memory, Inside, part_of, stored, with_marks, with_pages}
 use Rattle.guest_memory.specs.Pages.{bits_of, marked}
 use Rattle.guest_memory.specs.Regions.{Region, AreRegions, IsIn, in_front, memory_of}
-use Rattle.guest_memory.specs.Stock.{regions_of, with_pages}
 use Rattle.guest_memory.proofs.Marking.{marked-nil}
 use Rattle.guest_memory.proofs.InRegions.{one_tells, only_inside, part_in, place_in, put_in, region_fits, regions-put_in, with_put}
-
--- none are its own: the lent ones
-pub lent_regions : (own lent : List Region) (count : ℕ) (test : Bool) → length own ≡ count
-    → test ≡ (count == 0) → test ≡ true → regions_of own lent ≡ lent
-lent_regions [] lent count test size is empty = refl
-lent_regions (r ∷ rs) lent count test size is empty = absurd (grind (arith, nat_tests, size, is, empty))
-
--- some are
-pub some_own : (own : List Region) {count : ℕ} {test : Bool} → length own ≡ count → test ≡ (count == 0)
-    → test ≡ false → 0 < length own
-some_own own size is some = grind (arith, nat_tests, size, is, some)
-
--- where there is one, they are its own
-pub regions_own : (own lent : List Region) → 0 < length own → regions_of own lent ≡ own
-regions_own [] lent some = absurd (omega (arith, some))
-regions_own (r ∷ rs) lent some = refl
-
--- the list xs that is searched has the memory's regions: the lent ones, or its own
-pub lent_view : (own lent : List Region) {xs : List Region} {count : ℕ} {test : Bool} {bits : List Bool} {m : Memory}
-    → length own ≡ count
-    → test ≡ (count == 0) → test ≡ true
-    → with_pages bits (memory_of (regions_of own lent)) ≡ m → xs ≡ lent → with_pages bits (memory_of xs) ≡ m
-lent_view own lent {count = count} {test = test} {bits = bits} size is empty view same =
-    ap (λ (rs : List Region). with_pages bits (memory_of rs))
-    (same ∙ sym (lent_regions own lent count test size is empty)) ∙ view
-
-pub own_view : (own lent : List Region) {xs : List Region} {count : ℕ} {test : Bool} {bits : List Bool} {m : Memory}
-    → length own ≡ count
-    → test ≡ (count == 0) → test ≡ false
-    → with_pages bits (memory_of (regions_of own lent)) ≡ m → xs ≡ own → with_pages bits (memory_of xs) ≡ m
-own_view own lent {count = count} {test = test} {bits = bits} size is some view same =
-    ap (λ (rs : List Region). with_pages bits (memory_of rs))
-    (same ∙ sym (regions_own own lent (some_own own size is some))) ∙ view
 
 -- the bits of pages have no part in where a range lies
 pub inside_with : {m : Memory} {a n : ℕ} (bits : List Bool) → Inside m a n → Inside (with_pages bits m) a n
@@ -59,111 +23,89 @@ tells_with {P} {m} {with_bits} {a} {n} {bits} is h = (
   λ inside. h.1 (inside_without bits (subst (λ (k : Memory). Inside k a n) (sym is) inside)),
 )
 
--- the memory m has the regions rs, and where other regions ys stand in their list, it has those: all = λ ys.
--- what is then its list
-pub record IsStock (all : List Region → List Region) (rs : List Region) (m : Memory) : Type 0 where
-  pub others : (ys : List Region) → length ys ≡ length rs → all ys ≡ ys
+-- the memory m has the regions rs
+pub record HasRegions (rs : List Region) (m : Memory) : Type 0 where
   pub regions : AreRegions rs
   pub bits : List Bool
   pub view : with_pages bits (memory_of rs) ≡ m
 
--- its own ones, where it has some
-pub own_stock : (own lent : List Region) {bits : List Bool} {m : Memory} → 0 < length own
-    → AreRegions (regions_of own lent)
-    → with_pages bits (memory_of (regions_of own lent)) ≡ m
-    → IsStock (λ ys. regions_of ys lent) own m
-own_stock own lent {bits = bits} some regions view = record {
-  others = λ ys size. regions_own ys lent (omega (arith, some, size));
-  regions = subst AreRegions (regions_own own lent some) regions;
-  bits = bits;
-  view = ap (λ (rs : List Region). with_pages bits (memory_of rs)) (sym (regions_own own lent some)) ∙ view;
-}
+pub has_regions : {rs : List Region} {bits : List Bool} {m : Memory} → AreRegions rs
+    → with_pages bits (memory_of rs) ≡ m → HasRegions rs m
+has_regions {bits = bits} regions view = record { regions = regions; bits = bits; view = view }
 
--- the lent ones, where it has none
-pub lent_stock : (own lent : List Region) {count : ℕ} {test : Bool} {bits : List Bool} {m : Memory}
-    → length own ≡ count
-    → test ≡ (count == 0) → test ≡ true
-    → AreRegions (regions_of own lent) → with_pages bits (memory_of (regions_of own lent)) ≡ m
-    → IsStock (λ ys. regions_of own ys) lent m
-lent_stock own lent {count = count} {test = test} {bits = bits} size is empty regions view = record {
-  others = λ ys _. lent_regions own ys count test size is empty;
-  regions = subst AreRegions (lent_regions own lent count test size is empty) regions;
-  bits = bits;
-  view = ap (λ (rs : List Region). with_pages bits (memory_of rs))
-      (sym (lent_regions own lent count test size is empty)) ∙ view;
-}
+-- a list that is searched has its regions
+pub viewed : {rs xs : List Region} {bits : List Bool} {m : Memory} → with_pages bits (memory_of rs) ≡ m → xs ≡ rs
+    → with_pages bits (memory_of xs) ≡ m
+viewed {bits = bits} view same = ap (λ (rs : List Region). with_pages bits (memory_of rs)) same ∙ view
 
 -- the n bytes from address a on lie in the region x, which is the i-th of them
-pub record IsFound (all : List Region → List Region) (rs : List Region) (m : Memory) (i a n : ℕ)
-    (x : Region) : Type 0 where
-  pub stock : IsStock all rs m
+pub record IsFound (rs : List Region) (m : Memory) (i a n : ℕ) (x : Region) : Type 0 where
+  pub has : HasRegions rs m
   pub place : i < length rs
   pub lies : IsIn (get_or rs i x) a n
   pub is : x ≡ get_or rs i x
 
 -- of one region it is that one
-pub only_found : {all : List Region → List Region} {rs : List Region} {m : Memory} {a n : ℕ} {x : Region}
-    → IsStock all rs m → length rs ≡ 1 → Inside m a n → x ≡ get_or rs 0 x → IsFound all rs m 0 a n x
-only_found {rs = rs} {a = a} {n = n} {x = x} stock one inside is = record {
-  stock = stock;
+pub only_found : {rs : List Region} {m : Memory} {a n : ℕ} {x : Region}
+    → HasRegions rs m → length rs ≡ 1 → Inside m a n → x ≡ get_or rs 0 x → IsFound rs m 0 a n x
+only_found {rs = rs} {a = a} {n = n} {x = x} has one inside is = record {
+  has = has;
   place = omega (arith, one);
-  lies = only_inside rs a n x stock.regions.apart
-      (inside_without stock.bits (subst (λ (m : Memory). Inside m a n) (sym stock.view) inside)) one;
+  lies = only_inside rs a n x has.regions.apart
+      (inside_without has.bits (subst (λ (m : Memory). Inside m a n) (sym has.view) inside)) one;
   is = is;
 }
 
 -- one that was searched for, in the same list under another name
-pub search_found : {all : List Region → List Region} {xs rs : List Region} {m : Memory} {i a n : ℕ}
-    {x : Region} → IsStock all rs m
-    → xs ≡ rs → i < length xs → IsIn (get_or xs i x) a n → x ≡ get_or rs i x → IsFound all rs m i a n x
-search_found {xs = xs} {rs = rs} {i = i} {a = a} {n = n} {x = x} stock same within lies is =
+pub search_found : {xs rs : List Region} {m : Memory} {i a n : ℕ}
+    {x : Region} → HasRegions rs m
+    → xs ≡ rs → i < length xs → IsIn (get_or xs i x) a n → x ≡ get_or rs i x → IsFound rs m i a n x
+search_found {xs = xs} {rs = rs} {i = i} {a = a} {n = n} {x = x} has same within lies is =
     let at = place_in xs rs i a n x same within lies in
-    record { stock = stock; place = at.0; lies = at.1; is = is }
+    record { has = has; place = at.0; lies = at.1; is = is }
 
 -- the test of a range in the only region
-pub only_tells : {all : List Region → List Region} {rs : List Region} {m : Memory} {a n : ℕ} {x : Region} {t : Bool}
-    → IsStock all rs m → length rs ≡ 1 → x ≡ get_or rs 0 x → IsTrue t ↔ IsIn x a n → IsTrue t ↔ Inside m a n
-only_tells {rs = rs} {a = a} {n = n} {x = x} {t = t} stock one is tells =
-    tells_with stock.view (one_tells rs a n x t (memory_of rs) refl stock.regions.apart one is tells)
+pub only_tells : {rs : List Region} {m : Memory} {a n : ℕ} {x : Region} {t : Bool}
+    → HasRegions rs m → length rs ≡ 1 → x ≡ get_or rs 0 x → IsTrue t ↔ IsIn x a n → IsTrue t ↔ Inside m a n
+only_tells {rs = rs} {a = a} {n = n} {x = x} {t = t} has one is tells =
+    tells_with has.view (one_tells rs a n x t (memory_of rs) refl has.regions.apart one is tells)
 
 -- the range lies in that region, and ends by 2^64
-pub found_lies : {all : List Region → List Region} {rs : List Region} {m : Memory} {i a n : ℕ} {x : Region}
-    → IsFound all rs m i a n x
+pub found_lies : {rs : List Region} {m : Memory} {i a n : ℕ} {x : Region}
+    → IsFound rs m i a n x
     → IsIn x a n
 found_lies {a = a} {n = n} at = subst (λ (r : Region). IsIn r a n) (sym at.is) at.lies
 
-pub found_fits : {all : List Region → List Region} {rs : List Region} {m : Memory} {i a n : ℕ} {x : Region}
-    → IsFound all rs m i a n x
+pub found_fits : {rs : List Region} {m : Memory} {i a n : ℕ} {x : Region}
+    → IsFound rs m i a n x
     → a + n ≤ 2 ^ 64
 found_fits {rs = rs} {i = i} {x = x} at =
-    omega (arith, region_fits rs i x at.stock.regions.apart at.place, at.lies.below)
+    omega (arith, region_fits rs i x at.has.regions.apart at.place, at.lies.below)
 
 -- its bytes are the region's
-pub found_part : {all : List Region → List Region} {rs : List Region} {m : Memory} {i a n : ℕ} {x : Region}
-    → IsFound all rs m i a n x
+pub found_part : {rs : List Region} {m : Memory} {i a n : ℕ} {x : Region}
+    → IsFound rs m i a n x
     → take n (drop (a - x.base) x.bytes) ≡ part_of m a n
 found_part {rs = rs} {m = m} {i = i} {a = a} {n = n} {x = x} at =
-    part_in rs i a n x (memory_of rs) refl at.stock.regions.apart at.place at.lies at.is
-    ∙ ap (λ (m : Memory). part_of m a n) at.stock.view
+    part_in rs i a n x (memory_of rs) refl at.has.regions.apart at.place at.lies at.is
+    ∙ ap (λ (m : Memory). part_of m a n) at.has.view
 
 -- a write there is one to the region, and leaves regions
-pub found_put : {all : List Region → List Region} {rs : List Region} {m : Memory} {i a n : ℕ}
-    {x : Region} (bits : List Bool) (k : Memory) (bs : List ℕ) → with_pages bits k ≡ m → IsFound all rs m i a n x
-    → with_pages bits (memory_of (all (set rs i (with_put x a bs)))) ≡ stored m a bs
-found_put {all = all} {rs = rs} {m = m} {i = i} {a = a} {n = n} {x = x} bits k bs view at =
-    let same : bits ≡ at.stock.bits =
-    ap (λ (y : Memory). y.pages) view ∙ sym (ap (λ (y : Memory). y.pages) at.stock.view) in
-    ap (λ (kept : List Bool). with_pages kept (memory_of (all (set rs i (with_put x a bs))))) same
-    ∙ ap (with_pages at.stock.bits) (ap memory_of (at.stock.others _ (length-set rs i (with_put x a bs)))
-    ∙ put_in rs i a n x (memory_of rs) bs refl at.stock.regions.apart at.place at.lies at.is)
-    ∙ ap (λ (y : Memory). stored y a bs) at.stock.view
+pub found_put : {rs : List Region} {m : Memory} {i a n : ℕ}
+    {x : Region} (bits : List Bool) (k : Memory) (bs : List ℕ) → with_pages bits k ≡ m → IsFound rs m i a n x
+    → with_pages bits (memory_of (set rs i (with_put x a bs))) ≡ stored m a bs
+found_put {rs = rs} {m = m} {i = i} {a = a} {n = n} {x = x} bits k bs view at =
+    let same : bits ≡ at.has.bits =
+    ap (λ (y : Memory). y.pages) view ∙ sym (ap (λ (y : Memory). y.pages) at.has.view) in
+    ap (λ (kept : List Bool). with_pages kept (memory_of (set rs i (with_put x a bs)))) same
+    ∙ ap (with_pages at.has.bits) (put_in rs i a n x (memory_of rs) bs refl at.has.regions.apart at.place at.lies at.is)
+    ∙ ap (λ (y : Memory). stored y a bs) at.has.view
 
-pub found_regions : {all : List Region → List Region} {rs : List Region} {m : Memory} {i a n : ℕ}
+pub found_regions : {rs : List Region} {m : Memory} {i a n : ℕ}
     {x : Region} (bs : List ℕ)
-    → IsFound all rs m i a n x → AreRegions (all (set rs i (with_put x a bs)))
+    → IsFound rs m i a n x → AreRegions (set rs i (with_put x a bs))
 found_regions {rs = rs} {i = i} {a = a} {n = n} {x = x} bs at =
-    subst AreRegions (sym (at.stock.others _ (length-set rs i (with_put x a bs))))
-    (regions-put_in rs i a n x bs at.stock.regions at.place at.lies at.is)
+    regions-put_in rs i a n x bs at.has.regions at.place at.lies at.is
 
 -- marks have no part in where a range lies, nor in its bytes
 pub inside_marked : {m marked_one : Memory} {a n : ℕ} → marked_one ≡ with_marks m a n → Inside m a n

@@ -5,8 +5,10 @@ use Rattle.std.specs.declared.alloc.Allocator.{Ghosts}
 use denote.RattleType.{RattleType}
 use Rattle.guest_memory.specs.Memory.{Memory, put_at, stored, with_marks}
 use Rattle.guest_memory.specs.Regions.{Region}
+use Rattle.guest_memory.specs.Bytes.{with_bytes}
 use Rattle.guest_memory.specs.contracts.memory.GuestMemory.{the_row}
 use Rattle.guest_memory.specs.contracts.region.Region as region
+use Rattle.guest_memory.specs.contracts.bytes.Bytes as bytes
 
 -- m, whose allocator is of type A, ends with the bytes last behind r from address a on, and their pages are marked
 abbrev pub LendsPart : (A : RattleType) → Ghosts A.Denot → MutBor Memory → ℕ → MutBor (List ℕ) → Fml
@@ -22,3 +24,8 @@ abbrev pub LendsRegion : (A : RattleType) → Ghosts A.Denot → MutBor Region �
 LendsRegion A heap m a r =
     Lends (region.the_row A heap) (Array u8 0) m r
     (λ bs. record m.now { bytes = put_at m.now.bytes (a - m.now.base) bs })
+
+-- the same of its bytes, from place i on
+abbrev pub LendsBytes : (A : RattleType) → (heap : Ghosts A.Denot) → MutBor (bytes.the_row A heap).Denot → ℕ
+    → MutBor (List ℕ) → Fml
+LendsBytes A heap b i r = Lends (bytes.the_row A heap) (Array u8 0) b r (with_bytes b.now i)

@@ -3,7 +3,7 @@ pub mod Pages
 pub mod Memory
 pub mod Marks
 pub mod Regions
-pub mod Stock
+pub mod Bytes
 pub mod Places
 pub mod Faults
 pub mod Lending

@@ -60,6 +60,10 @@ up_to_gap (g ∷ gs) a bs = if nat_le g.end a then up_to_gap gs a bs else take (
 abbrev pub stored : Memory → ℕ → List ℕ → Memory
 stored m a bs = record m { bytes = put_at m.bytes (a - m.base) (up_to_gap m.gaps a bs) }
 
+-- the memory with these bits of its pages
+abbrev pub with_pages : List Bool → Memory → Memory
+with_pages bits m = record m { pages = bits }
+
 -- the pages of the n bytes from address a on are marked
 abbrev pub with_marks : Memory → ℕ → ℕ → Memory
 with_marks m a n = record m { pages = marked 0 (a - m.base) n m.pages }

@@ -5,6 +5,7 @@
 //! every byte of a descriptor, a ring or a buffer.
 #![tactic(auto)]
 
+mod bytes;
 mod fault;
 mod laws;
 mod lookup;

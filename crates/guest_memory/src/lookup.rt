@@ -47,14 +47,12 @@ pub(crate) fn span<A: Allocator>(regions: &[Region<A>]) -> u64
 }
 
 /// Whether the `n` bytes from `addr` on lie in one region.
+#[inline(never)]
 pub(crate) fn holds<A: Allocator>(regions: &[Region<A>], addr: u64, n: u64) -> bool
     requires { AreApart regions.now }
     ensures inside { IsTrue result ↔ Inside (memory_of regions.now) addr n }
     ensures fits { IsTrue result → addr + n ≤ 2 ^ 64 }
 {
-    if regions.len() == 1 {
-        return regions[0].holds(addr, n);
-    }
     match place_of(regions, addr) {
         Some(place) => n <= regions[place].room_behind(addr),
         None => false,
@@ -78,6 +76,7 @@ pub(crate) fn room_at<A: Allocator>(regions: &[Region<A>], addr: u64) -> Option<
 }
 
 /// The `n` bytes from `addr` on.
+#[inline(never)]
 pub(crate) fn slice<A: Allocator>(regions: &[Region<A>], addr: u64, n: u64) -> &[u8]
     requires apart { AreApart regions.now }
     requires inside { Inside (memory_of regions.now) addr n }

@@ -3,9 +3,8 @@
 ghost use Rattle.std.specs.Prelude.{◌≡◌, ◌+◌, ◌^◌, ◌≤◌, ◌<◌, ◌↔◌, ◌⊎◌, ℕ, All, length, map, IsTrue, IsSome, IfOk, IfErr, OnOk, IfSome, slice_index_or};
 ghost use Rattle.std.specs.List.{position};
 ghost use Rattle.guest_memory.specs.Limits.{IsSize, IsBase};
-ghost use Rattle.guest_memory.specs.Memory.{Inside, IsRest, SameRange, is_inside, part_of, with_marks, zeroed};
+ghost use Rattle.guest_memory.specs.Memory.{Inside, IsRest, SameRange, is_inside, part_of, with_marks, with_pages, zeroed};
 ghost use Rattle.guest_memory.specs.Pages.{bits_of};
-ghost use Rattle.guest_memory.specs.Stock.{with_pages};
 ghost use Rattle.guest_memory.specs.Regions.{touches, IsIn, AreApart, memory_of};
 ghost use Rattle.guest_memory.specs.Faults.{AreGood, IsRefused, Refuses, spec_of, zeroed_region, zeroed_regions};
 ghost use Rattle.guest_memory.specs.Lending.{LendsPart, LendsToHost};
@@ -24,30 +23,27 @@ use std_alloc::vec::Lodged;
 /// The memory of one guest: its regions, in ascending order and apart from each other.
 #[derive(Drop)]
 pub struct GuestMemory<A: Allocator = Global> {
-    // Of the two one is empty: regions of the library's own bytes, or of a host's.
-    own: Vec<Region<A>, A>,
-    lent: Vec<Region<Lodged>, A>,
+    regions: Vec<Region<A>, A>,
     // A bit for each page, where a host wants them.
     pages: Vec<u8, Lodged>,
 }
 
 impl<A: Allocator> Model for GuestMemory<A> {
-    ghost use Rattle.guest_memory.specs.Memory.{Memory};
+    ghost use Rattle.guest_memory.specs.Memory.{Memory, with_pages};
     ghost use Rattle.guest_memory.specs.Regions.{memory_of, AreRegions};
     ghost use Rattle.guest_memory.specs.Pages.{bits_of};
-    ghost use Rattle.guest_memory.specs.Stock.{regions_of, with_pages};
 
     ghost Value = { Memory };
 
-    ghost view = { λ m. with_pages (bits_of m.pages.items) (memory_of (regions_of m.own.items m.lent.items)) };
+    ghost view = { λ m. with_pages (bits_of m.pages.items) (memory_of m.regions.items) };
 
-    ghost invariant = { λ m. AreRegions (regions_of m.own.items m.lent.items) };
+    ghost invariant = { λ m. AreRegions m.regions.items };
 }
 
 /// Where the regions are and how large.
 fn specs<A: Allocator + Copy>(
     alloc: A,
-    regions: &[Region<Lodged>],
+    regions: &[Region<A>],
 ) -> Result<Vec<RegionSpec, A>, AllocError>
     ensures { IfOk result (λ specs. specs.items ≡ map spec_of regions.now) }
 {
@@ -95,9 +91,8 @@ impl<A: Allocator + Copy> GuestMemory<A> {
             return Err(fault);
         }
         match zeroed(alloc, &[RegionSpec { base, len }]) {
-            Ok(own) => Ok(GuestMemory {
-                own,
-                lent: Vec::new(alloc),
+            Ok(regions) => Ok(GuestMemory {
+                regions,
                 pages: Vec::new(Lodged),
             }),
             Err(_) => Err(MemoryFault::NoMemory),
@@ -117,17 +112,16 @@ impl<A: Allocator + Copy> GuestMemory<A> {
             return Err(fault);
         }
         match zeroed(alloc, regions) {
-            Ok(own) => Ok(GuestMemory {
-                own,
-                lent: Vec::new(alloc),
+            Ok(regions) => Ok(GuestMemory {
+                regions,
                 pages: Vec::new(Lodged),
             }),
             Err(_) => Err(MemoryFault::NoMemory),
         }
     }
 
-    /// A memory of these regions, whose bytes a host lends. None is copied, read or written, then or at the end.
-    pub fn of_lent(alloc: A, regions: Vec<Region<Lodged>, A>) -> Result<GuestMemory<A>, MemoryFault>
+    /// A memory of these regions, each of bytes of its own or of a host's. None is copied, read or written.
+    pub fn of_regions(alloc: A, regions: Vec<Region<A>, A>) -> Result<GuestMemory<A>, MemoryFault>
         ensures made { IfOk result (λ m. m ≡ memory_of regions.items) }
         ensures ok { OnOk result (AreGood (map spec_of regions.items)) }
         ensures fault { IfErr result (λ fault.
@@ -138,8 +132,7 @@ impl<A: Allocator + Copy> GuestMemory<A> {
         };
         match fault_of_regions(&specs) {
             None => Ok(GuestMemory {
-                own: Vec::new(alloc),
-                lent: regions,
+                regions,
                 pages: Vec::new(Lodged),
             }),
             Some(RegionFault { region: _, fault }) => Err(fault),
@@ -152,20 +145,14 @@ impl<A: Allocator> GuestMemory<A> {
     pub fn base(&self) -> u64
         ensures { result ≡ self.now.base }
     {
-        if self.own.is_empty() {
-            return lookup::base(&self.lent);
-        }
-        lookup::base(&self.own)
+        lookup::base(&self.regions)
     }
 
     /// The number of addresses from the first byte to the last, those in gaps included.
     pub fn len(&self) -> u64
         ensures { result ≡ length self.now.bytes }
     {
-        if self.own.is_empty() {
-            return lookup::span(&self.lent);
-        }
-        lookup::span(&self.own)
+        lookup::span(&self.regions)
     }
 
     /// The number of bytes from `addr` to the end of the region that holds it. There is no answer where none does.
@@ -174,10 +161,7 @@ impl<A: Allocator> GuestMemory<A> {
         ensures room { IfSome result (λ room. (n : ℕ) → (n ≤ room) ↔ Inside self.now addr n) }
         ensures fits { IfSome result (λ room. addr + room ≤ 2 ^ 64) }
     {
-        if self.own.is_empty() {
-            return lookup::room_at(&self.lent, addr);
-        }
-        lookup::room_at(&self.own, addr)
+        lookup::room_at(&self.regions, addr)
     }
 
     /// The bytes from `addr` to the end of the region that holds it. There is no answer where none does.
@@ -207,13 +191,10 @@ impl<A: Allocator> GuestMemory<A> {
         ensures test { result ≡ is_inside self.now addr n }
         ensures fits { IsTrue result → addr + n ≤ 2 ^ 64 }
     {
-        if self.own.len() == 1 {
-            return self.own[0].holds(addr, n);
+        if self.regions.len() == 1 {
+            return self.regions[0].holds(addr, n);
         }
-        if self.own.is_empty() && self.lent.len() == 1 {
-            return self.lent[0].holds(addr, n);
-        }
-        self.holds_among(addr, n)
+        lookup::holds(&self.regions, addr, n)
     }
 
     /// The `n` bytes from `addr` on, which lie in the memory, end at 2^64 at most. It looks at nothing: `slice` says the same.
@@ -221,20 +202,7 @@ impl<A: Allocator> GuestMemory<A> {
         requires { Inside self.now addr n }
         ensures { addr + n ≤ 2 ^ 64 }
     {
-        let _ = &self.own;
-    }
-
-    // The same of any number of regions.
-    #[inline(never)]
-    fn holds_among(&self, addr: u64, n: u64) -> bool
-        ensures inside { IsTrue result ↔ Inside self.now addr n }
-        ensures test { result ≡ is_inside self.now addr n }
-        ensures fits { IsTrue result → addr + n ≤ 2 ^ 64 }
-    {
-        if self.own.is_empty() {
-            return lookup::holds(&self.lent, addr, n);
-        }
-        lookup::holds(&self.own, addr, n)
+        let _ = &self.regions;
     }
 
     /// The `n` bytes from `addr` on, where they all lie in the memory.
@@ -255,27 +223,10 @@ impl<A: Allocator> GuestMemory<A> {
         ensures len { length result.now ≡ n }
         ensures fits { addr + n ≤ 2 ^ 64 }
     {
-        if self.own.len() == 1 {
-            return self.own[0].slice(addr, n);
+        if self.regions.len() == 1 {
+            return self.regions[0].slice(addr, n);
         }
-        if self.own.is_empty() && self.lent.len() == 1 {
-            return self.lent[0].slice(addr, n);
-        }
-        self.slice_among(addr, n)
-    }
-
-    // The same of any number of regions.
-    #[inline(never)]
-    fn slice_among(&self, addr: u64, n: u64) -> &[u8]
-        requires { Inside self.now addr n }
-        ensures value { result.now ≡ part_of self.now addr n }
-        ensures len { length result.now ≡ n }
-        ensures fits { addr + n ≤ 2 ^ 64 }
-    {
-        if self.own.is_empty() {
-            return lookup::slice(&self.lent, addr, n);
-        }
-        lookup::slice(&self.own, addr, n)
+        lookup::slice(&self.regions, addr, n)
     }
 
     /// The `n` bytes from `addr` on, to be written by a device: their pages are marked. `holds` is the test.
@@ -298,21 +249,12 @@ impl<A: Allocator> GuestMemory<A> {
         ensures value { result.now ≡ part_of self.old addr n }
         ensures len { length result.now ≡ n }
     {
-        if self.own.len() == 1 {
-            let region = &mut self.own[0];
+        if self.regions.len() == 1 {
+            let region = &mut self.regions[0];
             return region.part_mut(addr, n);
         }
-        if self.own.is_empty() {
-            if self.lent.len() == 1 {
-                let region = &mut self.lent[0];
-                return region.part_mut(addr, n);
-            }
-            let place = lookup::place_inside(&self.lent, addr, n);
-            let region = &mut self.lent[place];
-            return region.part_mut(addr, n);
-        }
-        let place = lookup::place_inside(&self.own, addr, n);
-        let region = &mut self.own[place];
+        let place = lookup::place_inside(&self.regions, addr, n);
+        let region = &mut self.regions[place];
         region.part_mut(addr, n)
     }
 

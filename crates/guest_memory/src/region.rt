@@ -7,26 +7,29 @@ ghost use Rattle.guest_memory.specs.Memory.{put_at};
 ghost use Rattle.guest_memory.specs.Lending.{LendsRegion};
 ghost use Rattle.std.specs.Borrow.{sem};
 
+use crate::bytes::Bytes;
 use crate::spec::RegionSpec;
 use std::alloc::{Allocator, Global};
 use std::marker::Model;
+use std_alloc::vec::Lodged;
 
 /// One region of a guest's memory.
 #[derive(Drop)]
 pub struct Region<A: Allocator = Global> {
     base: u64,
-    bytes: Vec<u8, A>,
+    bytes: Bytes<A>,
 }
 
 impl<A: Allocator> Model for Region<A> {
     ghost use Rattle.guest_memory.specs.Regions.{Region as Value_of, end_of};
+    ghost use Rattle.guest_memory.specs.Bytes.{bytes_of};
     ghost use Rattle.std.specs.Prelude.{◌≤◌, ◌+◌, ◌^◌, length};
 
     ghost Value = { Value_of };
 
-    ghost view = { λ r. record { base = r.base; bytes = r.bytes.items } };
+    ghost view = { λ r. record { base = r.base; bytes = bytes_of r.bytes } };
 
-    ghost invariant = { λ r. r.base + length r.bytes.items ≤ 2 ^ 64 };
+    ghost invariant = { λ r. r.base + length (bytes_of r.bytes) ≤ 2 ^ 64 };
 }
 
 impl<A: Allocator> Region<A> {
@@ -36,7 +39,22 @@ impl<A: Allocator> Region<A> {
         ensures base { result.base ≡ base }
         ensures bytes { result.bytes ≡ bytes.items }
     {
-        Region { base, bytes }
+        Region {
+            base,
+            bytes: Bytes::Own(bytes),
+        }
+    }
+
+    /// These bytes, which a host lends, from address `base` on.
+    pub fn of_lent(base: u64, bytes: Vec<u8, Lodged>) -> Region<A>
+        requires { base + length bytes.items ≤ 2 ^ 64 }
+        ensures base { result.base ≡ base }
+        ensures bytes { result.bytes ≡ bytes.items }
+    {
+        Region {
+            base,
+            bytes: Bytes::Lent(bytes),
+        }
     }
 
     /// The address of the first byte.
@@ -96,7 +114,7 @@ impl<A: Allocator> Region<A> {
         ensures len { length result.now ≡ n }
     {
         let from = (addr - self.base) as usize;
-        &self.bytes[from..from + n as usize]
+        self.bytes.slice(from, n as usize)
     }
 
     /// The `n` bytes from `addr` on, to be written.
@@ -107,6 +125,6 @@ impl<A: Allocator> Region<A> {
         ensures len { length result.now ≡ n }
     {
         let from = (addr - self.base) as usize;
-        self.bytes.slice_mut(from..from + n as usize)
+        self.bytes.slice_mut(from, n as usize)
     }
 }
