@@ -1,39 +1,34 @@
 -- Whether bytes are digits, judged without a branch.
-use Rattle.std.proofs.Common.{◌≡◌, ℕ, ◌+◌, ◌-◌, ◌<◌, ◌≤◌, Bool, true, ◌&&◌, ◌||◌, leb, List, All, IsTrue, ◌↔◌, inl, inr, length, get_or, take, drop, refl, sym, subst, arith, length-take}
+use Rattle.std.proofs.Common.{◌≡◌, ℕ, ◌+◌, ◌-◌, ◌<◌, ◌≤◌, ◌%◌, ◌^◌, ◌⊎◌, nat_eq, Bool, true, ◌&&◌, List, All, IsTrue, ◌↔◌, inl, inr, length, get_or, take, drop, refl, sym, subst, arith, length-take}
 use Rattle.std.proofs.Math.Seq.{take-add, take-take}
-use Rattle.std.proofs.lemmas.Bool.{and_from, and_parts, le-leb, leb-true, or_cases, or_left, or_right}
+use Rattle.std.proofs.lemmas.Bool.{and_parts}
+use Rattle.std.proofs.lemmas.Bool.Decides.{nat_tests}
 use Rattle.std.proofs.lemmas.List.{get_or-take}
 use Rattle.std.proofs.lemmas.List.Elements.{All-append, All-more, All-take}
 use Rattle.hexadecimal.specs.Fields.{IsDigit}
 use Rattle.hexadecimal.proofs.Digits.{digit_cases, digit_high, digit_low}
 
--- the test for a digit
-pub digit_test : (c : ℕ) → IsTrue ((leb 48 c && leb c 57) || (leb 97 c && leb c 102)) ↔ IsDigit c
-digit_test c = (
+-- the test for a digit: how far the byte is past the figures, and past the letters, where what is below them is far past
+pub past_tells : (c figures letters lower : ℕ) → c < 2 ^ 8 → figures ≡ (c + 208) % 2 ^ 8 - 9
+    → letters ≡ (c + 159) % 2 ^ 8 - 5 → ((lower ≡ 0) ↔ ((figures ≡ 0) ⊎ (letters ≡ 0)))
+    → IsTrue (nat_eq lower 0) ↔ IsDigit c
+past_tells c figures letters lower fits past_figures past_letters is = (
   λ yes.
-      elim (or_cases (leb 48 c && leb c 57) (leb 97 c && leb c 102) yes) [
+      elim (is.0 (grind (arith, nat_tests, yes))) [
         | inl figure ↦
-            let low = and_parts (leb 48 c) (leb c 57) figure in
-            let a : 48 ≤ c = leb-true 48 c low.0 in
-            let b : c ≤ 57 = leb-true c 57 low.1 in
-            let d = digit_low (c - 48) (omega arith) in
-            record { value = c - 48; small = omega arith; is = omega (arith, d) }
+            let d = digit_low (c - 48) (omega (arith, fits, past_figures, figure)) in
+            record { value = c - 48; small = omega (arith, fits, past_figures, figure); is = omega (arith, d, fits, past_figures, figure) }
         | inr letter ↦
-            let high = and_parts (leb 97 c) (leb c 102) letter in
-            let a : 97 ≤ c = leb-true 97 c high.0 in
-            let b : c ≤ 102 = leb-true c 102 high.1 in
-            let d = digit_high (c - 87) (omega arith) (omega arith) in
-            record { value = c - 87; small = omega arith; is = omega (arith, d) }
+            let d = digit_high (c - 87) (omega (arith, fits, past_letters, letter)) (omega (arith, fits, past_letters, letter)) in
+            record { value = c - 87; small = omega (arith, fits, past_letters, letter); is = omega (arith, d, fits, past_letters, letter) }
       ],
   λ h.
-      let is = h.is in
-      let small = h.small in
-      elim (digit_cases h.value small) [
-        | inl low ↦ or_left _ _ (and_from _ _ (le-leb 48 c (omega (arith, low.0, low.1, is)))
-            (le-leb c 57 (omega (arith, low.0, low.1, is))))
-        | inr high ↦ or_right _ _ (and_from _ _ (le-leb 97 c (omega (arith, high.0, high.1, is)))
-            (le-leb c 102 (omega (arith, high.0, high.1, is))))
-      ],
+      let here = h.is in
+      let zero : lower ≡ 0 = is.1 (elim (digit_cases h.value h.small) [
+        | inl low ↦ inl (omega (arith, past_figures, low.0, low.1, here))
+        | inr high ↦ inr (omega (arith, past_letters, high.0, high.1, here))
+      ]) in
+      rw zero refl,
 )
 
 -- one byte more

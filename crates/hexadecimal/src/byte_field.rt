@@ -1,6 +1,6 @@
 //! Fields that spell bytes.
 
-ghost use Rattle.std.specs.Prelude.{◌≡◌, ◌/◌, ◌<◌, ◌≤◌, ◌∷◌, [], ◌↔◌, All, IsTrue, IfNone, IfSome, length, slice_index_or, take};
+ghost use Rattle.std.specs.Prelude.{◌≡◌, ◌/◌, ◌<◌, ◌≤◌, ◌∷◌, [], ◌↔◌, ◌⊎◌, All, IsTrue, IfNone, IfSome, length, slice_index_or, take};
 ghost use Rattle.hexadecimal.specs.Fields.{ArePairs, IsBytesField, IsDigit, SpellsBytes};
 
 use crate::pairs::read_pairs;
@@ -74,12 +74,21 @@ pub fn are_digits(field: &[u8]) -> bool
     all
 }
 
-/// Whether the byte is a lower case digit. It has no branch, so that many bytes are judged at once.
-#[tactic(auto, using(crate::proofs::Judging::digit_test))]
+/// Whether the byte is a lower case digit: it isn't past the figures, or not past the letters. A processor has instructions that
+/// find this of many bytes at once.
 fn is_digit(c: u8) -> bool
     ensures { IsTrue result ↔ IsDigit c }
 {
-    (c >= b'0') & (c <= b'9') | (c >= b'a') & (c <= b'f')
+    let past_figures = c.wrapping_sub(b'0').saturating_sub(9);
+    let past_letters = c.wrapping_sub(b'a').saturating_sub(5);
+    lower(past_figures, past_letters) == 0
+}
+
+/// The lower of two.
+fn lower(a: u8, b: u8) -> u8
+    ensures { (result ≡ 0) ↔ ((a ≡ 0) ⊎ (b ≡ 0)) }
+{
+    if a < b { a } else { b }
 }
 
 /// Whether they are so, and in pairs.
