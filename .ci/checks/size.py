@@ -21,13 +21,13 @@ OF_LARGER_PAGES = {
     "docs/DECISIONS.md": 1400,
     "docs/EMBEDDING.md": 4700,
     "docs/LIMITS.md": 700,
-    "docs/architecture.md": 1250,
+    "docs/architecture.md": 1200,
     "docs/formats.md": 3150,
     "docs/model.md": 8300,
-    "docs/promises.md": 5000,
+    "docs/promises.md": 4900,
     "examples/README.md": 950,
-    "examples/linux/README.md": 1750,
-    "fuzz/README.md": 1200,
+    "examples/linux/README.md": 1600,
+    "fuzz/README.md": 1150,
     "tests/power/README.md": 600,
 }
 
