@@ -208,16 +208,19 @@ static void check_hosted(void)
     end(&board);
 }
 
-/* Three reads of a further disk fail, as those of the guest's own did, and then two of another are done. */
+/* Three reads of a further disk fail, as those of the guest's own did, and then two of another are done, which is the last device that
+ * a slot may have. */
 static void check_further(void)
 {
+    enum { LAST = KALYUBOS_DEVICES - 1 };
     const struct kalyubos_device disk = { .kind = KALYUBOS_DISK, .sectors = 1, .depth = 1 };
-    slots[0].devices[0] = slots[0].devices[1] = disk;
+    for (unsigned device = 0; device <= LAST; device++)
+        slots[0].devices[device] = disk;
     make(&board, kalyubos_config_of(slots, 1));
     read_sectors(0, KALYUBOS_DEVICE, 3, true);
     is_counted(0, (struct kalyubos_counters){ .notifies = 1, .chains = 3, .bytes_out = 3 * 16, .refusals = 3 },
                "a further disk's failures");
-    read_sectors(0, KALYUBOS_DEVICE + 1, 2, false);
+    read_sectors(0, KALYUBOS_DEVICE + LAST, 2, false);
     is_counted(0, (struct kalyubos_counters){ .notifies = 2, .chains = 5, .bytes_in = 2 * 513, .bytes_out = 5 * 16, .refusals = 3 },
                "another further disk's reads");
     end(&board);

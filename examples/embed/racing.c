@@ -1,6 +1,6 @@
 /*
  * A guest that runs on, by hand: over words in two regions its driver brings up a disk and a console, writes a sector, puts out a
- * line, reads one that is typed, and offers a broken chain. Between these each queue has more than a service's budget of chains, and
+ * line, reads one that is typed, and offers broken chains. Between these each queue has more than a service's budget of chains, and
  * the output more than its room. The host does what the disk is asked for, and prints what each call answers and what then stands in
  * the guest's memory. Both read and write that memory by atomic accesses, as the CPUs of such a guest and its host's threads do.
  *
@@ -439,23 +439,46 @@ static void put_out_what_never_fits(void)
     acknowledge(KALYUBOS_BLOCK, "disk");
 }
 
-static void show_fault(void)
+/* The last fault of each window. */
+static void show_faults(void)
 {
-    struct kalyubos_fault fault = { 0 };
-    printf("disk's last fault: %s", answer(kalyubos_guest_last_fault(&guest, KALYUBOS_BLOCK, &fault)));
-    printf(", %s; queue %" PRIu32 ", head %#" PRIx32 ", place %" PRIu32 "\n", kalyubos_fault_text(fault.kind), fault.queue, fault.head,
-           fault.place);
+    static const char *const NAMES[] = { [KALYUBOS_BLOCK] = "disk", [KALYUBOS_CONSOLE] = "console" };
+    for (uint8_t window = KALYUBOS_BLOCK; window <= KALYUBOS_CONSOLE; window++) {
+        struct kalyubos_fault fault = { 0 };
+        printf("%s's last fault: %s", NAMES[window], answer(kalyubos_guest_last_fault(&guest, window, &fault)));
+        printf(", %s; queue %" PRIu32 ", head %#" PRIx32 ", place %" PRIu32 "\n", kalyubos_fault_text(fault.kind), fault.queue,
+               fault.head, fault.place);
+    }
 }
 
-/* Offers a chain whose head isn't in the table, behind the one that was served. */
+/* The disk's driver offers a chain whose head isn't in the table, behind the one that was served. */
 static void make_a_mistake(void)
 {
-    show_fault();
+    show_faults();
     put_on_offer(DISK_QUEUE, SIZE);
     printf("a head outside the table: %s\n", answer(notify(KALYUBOS_BLOCK, 0)));
     show_pending();
     printf("disk: status %#" PRIx32 "\n", reg(KALYUBOS_BLOCK, STATUS));
-    show_fault();
+    show_faults();
+}
+
+/* The console's driver, anew, offers a line, and behind it one that lies outside the memory. The disk's fault stays. */
+static void make_another_mistake(void)
+{
+    put(RAM + TRANSMIT_QUEUE + AVAILABLE + 2, 0, 2);
+    begin(KALYUBOS_CONSOLE, "console");
+    queue(KALYUBOS_CONSOLE, 1, TRANSMIT_QUEUE);
+    set(KALYUBOS_CONSOLE, STATUS, 15);
+    put_text(RAM + LINE, "and bye\n");
+    describe(TRANSMIT_QUEUE, 0, RAM + LINE, 8, 0);
+    describe(TRANSMIT_QUEUE, 1, HIGH + HIGH_LEN - 4, 8, 0);
+    put_on_offer(TRANSMIT_QUEUE, 0);
+    put_on_offer(TRANSMIT_QUEUE, 1);
+    printf("a line outside memory: %s\n", answer(notify(KALYUBOS_CONSOLE, 1)));
+    show_pending();
+    printf("console: status %#" PRIx32 "\n", reg(KALYUBOS_CONSOLE, STATUS));
+    take_output();
+    show_faults();
 }
 
 /* ---- what is refused */
@@ -542,6 +565,7 @@ int main(void)
     read_a_long_line();
     put_out_what_never_fits();
     make_a_mistake();
+    make_another_mistake();
     printf("nothing is due: %s\n", answer(kalyubos_guest_go_on(&guest, &pending)));
     printf("hold: %s\n", answer(kalyubos_guest_hold(&guest, &pending)));
     printf("hold again: %s\n", answer(kalyubos_guest_hold(&guest, &pending)));
