@@ -64,9 +64,6 @@ pub fn serve_queue<B, D: RacingHandler<B>, M: Shared>(
     let Outcome { ending, wanted, .. } = served?;
     let fault = met_with(queue, ending);
     show(window, q, Left::Closed { fault, wanted }, chain);
-    if matches!(ending, Ending::More) {
-        chain.count_pause();
-    }
     Ok(ending.progress())
 }
 

@@ -119,11 +119,7 @@ fn show_looks(
 {
     let wanted = served.wanted;
     let _ = show(window, REQUESTQ, Left::Closed { fault, wanted }, chain);
-    let progress = served.ending.progress();
-    if matches!(progress, Progress::More) {
-        chain.count_pause();
-    }
-    progress
+    served.ending.progress()
 }
 
 // After a drop the window asks to be reset (2.1.2).
