@@ -114,7 +114,8 @@ enum {
     KALYUBOS_MORE = 18,             /* the slot's service pauses; see kalyubos_go_on, and kalyubos_guest_go_on */
     KALYUBOS_BUSY = 19,             /* the slot's service is paused, or one of its disks is at work; nothing changed */
     KALYUBOS_IO = 20,               /* done, and operations began; see kalyubos_in_flight */
-    KALYUBOS_IDLE = 21,             /* there is nothing to complete, drop, hold or release; nothing changed */
+    KALYUBOS_IDLE = 21,             /* there is nothing to complete, drop, hold or release, nor such a place of a queue; nothing
+                                       changed */
     KALYUBOS_NO_IMAGE = 22,         /* the image has no bytes; nothing changed */
     KALYUBOS_BAD_SNAPSHOT = 23,     /* the bytes are no snapshot; nothing changed */
     KALYUBOS_OTHER_SLOT = 24,       /* the snapshot is of a slot of another description; nothing changed */
@@ -825,6 +826,18 @@ KALYUBOS_LOOK_AT_IT
 uint32_t kalyubos_guest_hold(struct kalyubos_guest *guest, struct kalyubos_pending *pending);
 KALYUBOS_LOOK_AT_IT
 uint32_t kalyubos_guest_release(struct kalyubos_guest *guest, struct kalyubos_pending *pending);
+
+/*
+ * Where a queue of a window stands: the place of its next used entry. Of a split queue it is the used idx; of a packed one the
+ * position, and behind it QueueNum where the wrap counter is 0. IDLE: the device may not serve the queue.
+ */
+uint32_t kalyubos_guest_place(const struct kalyubos_guest *guest, uint8_t window, uint16_t queue, uint16_t *place);
+
+/*
+ * Puts a queue to the place where another device left it: from there on it is served, once it is notified. BUSY: an operation of
+ * it is in flight, or it is due. IDLE: the device may not serve the queue, or a packed one has no such place.
+ */
+uint32_t kalyubos_guest_set_place(struct kalyubos_guest *guest, uint8_t window, uint16_t queue, uint16_t place);
 
 /* InterruptStatus of both windows, as kalyubos_interrupts. */
 uint32_t kalyubos_guest_interrupts(const struct kalyubos_guest *guest, uint8_t *block, uint8_t *console);

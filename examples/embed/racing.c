@@ -1,6 +1,6 @@
 /*
  * A guest that runs on, by hand: over words in two regions its driver brings up a disk and a console, writes a sector, puts out a
- * line, reads one that is typed, and offers broken chains. Between these each queue has more than a service's budget of chains, and
+ * line, reads one that is typed, offers broken chains, and goes on where another device left its queue. Between these each queue has more than a service's budget of chains, and
  * the output more than its room. The host does what the disk is asked for, and prints what each call answers and what then stands in
  * the guest's memory. Both read and write that memory by atomic accesses, as the CPUs of such a guest and its host's threads do.
  *
@@ -23,7 +23,7 @@ enum { DISK_QUEUE = 0x1000, RECEIVE_QUEUE = 0x2000, TRANSMIT_QUEUE = 0x3000, AVA
 /* Requests' headers and statuses, an identity, lines that are put out, and where typed bytes go. Data are in the other region. */
 enum { HEADER = 0x4000, REQUEST_STATUS = 0x4010, IDENTITY = 0x4080, LINE = 0x4100, TYPED = 0x4200 };
 enum { IDENTITY_LEN = 20, LINE_LEN = 64, TYPED_LEN = 16 };
-enum { NEXT = 1, WRITE = 2, IN = 0, OUT = 1, FLUSH = 4, GET_ID = 8, UNTOLD = 0xff };
+enum { NEXT = 1, WRITE = 2, PACKED_USED = 1 << 15, VERSION_1 = 1, RING_PACKED = 4, IN = 0, OUT = 1, FLUSH = 4, GET_ID = 8, UNTOLD = 0xff };
 /* Offsets of registers (4.2.2). */
 enum { MAGIC = 0x000, DEVICE_ID = 0x008, DRIVER_FEATURES = 0x020, DRIVER_FEATURES_SEL = 0x024, QUEUE_SEL = 0x030,
        QUEUE_SIZE = 0x038, QUEUE_READY = 0x044, NOTIFY = 0x050, INTERRUPT_STATUS = 0x060, INTERRUPT_ACK = 0x064,
@@ -151,15 +151,20 @@ static uint32_t reg(uint8_t window, uint16_t offset)
     return value;
 }
 
-/* Brings a window up to FEATURES_OK, with VIRTIO_F_VERSION_1 (3.1.1). */
-static void begin(uint8_t window, const char *name)
+/* Brings a window up to FEATURES_OK, with these features of the higher word (3.1.1). */
+static void begin_with(uint8_t window, const char *name, uint32_t features)
 {
     printf("%s: magic %#" PRIx32 ", device %" PRIu32 "\n", name, reg(window, MAGIC), reg(window, DEVICE_ID));
     set(window, STATUS, 0);
     set(window, STATUS, 3);
     set(window, DRIVER_FEATURES_SEL, 1);
-    set(window, DRIVER_FEATURES, 1);
+    set(window, DRIVER_FEATURES, features);
     set(window, STATUS, 11);
+}
+
+static void begin(uint8_t window, const char *name)
+{
+    begin_with(window, name, VERSION_1);
 }
 
 static void queue(uint8_t window, uint32_t number, uint64_t at)
@@ -481,6 +486,85 @@ static void make_another_mistake(void)
     show_faults();
 }
 
+/* ---- the place of a queue */
+
+static void show_place(uint8_t window, uint16_t number)
+{
+    uint16_t at = 0;
+    uint32_t told = kalyubos_guest_place(&guest, window, number, &at);
+    printf("window %u, queue %u: %s, place %u\n", window, number, answer(told), at);
+}
+
+static void put_to(uint16_t at)
+{
+    printf("the disk's queue to %u: %s\n", at, answer(kalyubos_guest_set_place(&guest, KALYUBOS_BLOCK, 0, at)));
+}
+
+/* A flush from the disk's driver, which is completed; a place meanwhile is refused. */
+static void flush(void)
+{
+    printf("a flush: %s\n", answer(notify(KALYUBOS_BLOCK, 0)));
+    put_to(5);
+    complete(0);
+    printf("disk: status %" PRIu64 "\n", get(RAM + REQUEST_STATUS, 1));
+    show_place(KALYUBOS_BLOCK, 0);
+}
+
+/* The driver's next chain is number 65535 of its ring, and behind it both indices are 0 (2.7.6, 2.7.8). */
+static void go_on_in_a_split_ring(void)
+{
+    begin(KALYUBOS_BLOCK, "disk");
+    show_place(KALYUBOS_BLOCK, 0);
+    queue(KALYUBOS_BLOCK, 0, DISK_QUEUE);
+    set(KALYUBOS_BLOCK, STATUS, 15);
+    show_place(KALYUBOS_BLOCK, 0);
+    put_to(65535);
+    show_place(KALYUBOS_BLOCK, 0);
+    put(RAM + DISK_QUEUE + AVAILABLE + 2, 65535, 2);
+    put_request(0, FLUSH, 0);
+    describe(DISK_QUEUE, 0, RAM + HEADER, 16, NEXT);
+    describe(DISK_QUEUE, 1, RAM + REQUEST_STATUS, 1, WRITE);
+    put_on_offer(DISK_QUEUE, 0);
+    flush();
+    printf("used idx %" PRIu64 ", entry 7 of head %" PRIu64 " with %" PRIu64 " bytes\n", get(RAM + DISK_QUEUE + USED + 2, 2),
+           get(RAM + DISK_QUEUE + USED + 4 + 8 * 7, 4), get(RAM + DISK_QUEUE + USED + 4 + 8 * 7 + 4, 4));
+}
+
+/* Descriptor `at` of a packed ring, on offer in the second turn, in which the wrap counter is 0 (2.8.1). */
+static void describe_packed(uint32_t at, uint64_t addr, uint32_t len, uint16_t flags)
+{
+    put(RAM + DISK_QUEUE + 16 * at, addr, 8);
+    put(RAM + DISK_QUEUE + 16 * at + 8, len, 4);
+    put(RAM + DISK_QUEUE + 16 * at + 12, 9, 2);
+    put(RAM + DISK_QUEUE + 16 * at + 14, flags | PACKED_USED, 2);
+}
+
+/* The driver's next list begins at position 3 in the second turn of its ring: its place is 11, and 13 behind its two descriptors. */
+static void go_on_in_a_packed_ring(void)
+{
+    begin_with(KALYUBOS_BLOCK, "disk", VERSION_1 | RING_PACKED);
+    queue(KALYUBOS_BLOCK, 0, DISK_QUEUE);
+    set(KALYUBOS_BLOCK, STATUS, 15);
+    put_to(2 * SIZE);
+    put_to(SIZE + 3);
+    put_request(0, FLUSH, 0);
+    describe_packed(3, RAM + HEADER, 16, NEXT);
+    describe_packed(4, RAM + REQUEST_STATUS, 1, WRITE);
+    flush();
+    printf("descriptor 3: id %" PRIu64 ", %" PRIu64 " bytes, flags %#" PRIx64 "\n", get(RAM + DISK_QUEUE + 16 * 3 + 12, 2),
+           get(RAM + DISK_QUEUE + 16 * 3 + 8, 4), get(RAM + DISK_QUEUE + 16 * 3 + 14, 2));
+}
+
+static void go_on_at_a_place(void)
+{
+    go_on_in_a_split_ring();
+    go_on_in_a_packed_ring();
+    show_place(KALYUBOS_BLOCK, 1);
+    show_place(KALYUBOS_CONSOLE, 1);
+    show_place(KALYUBOS_DEVICE, 0);
+    acknowledge(KALYUBOS_BLOCK, "disk");
+}
+
 /* ---- what is refused */
 
 static void try_config(const char *what, struct kalyubos_slot slot, size_t words_len)
@@ -566,6 +650,7 @@ int main(void)
     put_out_what_never_fits();
     make_a_mistake();
     make_another_mistake();
+    go_on_at_a_place();
     printf("nothing is due: %s\n", answer(kalyubos_guest_go_on(&guest, &pending)));
     printf("hold: %s\n", answer(kalyubos_guest_hold(&guest, &pending)));
     printf("hold again: %s\n", answer(kalyubos_guest_hold(&guest, &pending)));

@@ -206,7 +206,7 @@ impl fmt::Display for Error {
             Error::Busy => {
                 f.write_str("a service of the slot is paused, or one of its disks is at work")
             }
-            Error::Idle => f.write_str("there is nothing to complete, drop, hold or release"),
+            Error::Idle => f.write_str("there is nothing to complete, drop, hold or release, nor such a place of a queue"),
             Error::NoImage => f.write_str("the board has no image, or one of no bytes"),
             Error::ShortBuffer => {
                 f.write_str("the buffer is shorter than the snapshot or the frame")

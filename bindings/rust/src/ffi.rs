@@ -381,6 +381,18 @@ unsafe extern "C" {
     pub fn kalyubos_guest_drop(guest: *mut GuestHandle, pending: *mut Pending) -> u32;
     pub fn kalyubos_guest_hold(guest: *mut GuestHandle, pending: *mut Pending) -> u32;
     pub fn kalyubos_guest_release(guest: *mut GuestHandle, pending: *mut Pending) -> u32;
+    pub fn kalyubos_guest_place(
+        guest: *const GuestHandle,
+        window: u8,
+        queue: u16,
+        place: *mut u16,
+    ) -> u32;
+    pub fn kalyubos_guest_set_place(
+        guest: *mut GuestHandle,
+        window: u8,
+        queue: u16,
+        place: u16,
+    ) -> u32;
     pub fn kalyubos_guest_interrupts(
         guest: *const GuestHandle,
         block: *mut u8,

@@ -325,6 +325,25 @@ impl RunningGuest {
         self.told(|handle, told| unsafe { ffi::kalyubos_guest_release(handle, told) })
     }
 
+    /// Where a queue of a window stands: the place of its next used entry. Of a split queue it is the used idx; of a packed one
+    /// the position, and behind it the queue's size where the wrap counter is 0. [`Error::Idle`]: the device may not serve it.
+    pub fn place(&self, window: Window, queue: u16) -> Result<u16, Error> {
+        let mut place = 0;
+        Error::check(unsafe {
+            ffi::kalyubos_guest_place(&self.handle, window.number(), queue, &mut place)
+        })?;
+        Ok(place)
+    }
+
+    /// Puts a queue to the place where another device left it: from there on it is served, once it is notified.
+    /// [`Error::Busy`]: an operation of it is in flight, or it is due. [`Error::Idle`]: the device may not serve it, or a packed
+    /// queue has no such place.
+    pub fn set_place(&mut self, window: Window, queue: u16, place: u16) -> Result<(), Error> {
+        Error::check(unsafe {
+            ffi::kalyubos_guest_set_place(&mut self.handle, window.number(), queue, place)
+        })
+    }
+
     /// The interrupt words of the disk and the console. Each call that may move them tells them; a read moves none.
     pub fn interrupts(&self) -> Result<Interrupts, Error> {
         let (mut block, mut console) = (0, 0);

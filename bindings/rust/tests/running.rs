@@ -197,6 +197,30 @@ fn read_sector(guest: &mut RunningGuest, idx: u16, byte: u8) {
     assert_eq!(pending.interrupts.block, 0);
 }
 
+/// Its next chain is number 65535 of the ring, behind which both indices are 0 (2.7.6, 2.7.8).
+#[test]
+fn a_queue_goes_on_where_another_device_left_it() {
+    let mut guest = guest_of(&slot());
+    let memory = guest.memory().clone();
+    begin(&mut guest, Window::Block);
+    assert_eq!(guest.place(Window::Block, 0), Err(Error::Idle));
+    queue(&mut guest, Window::Block, 0, DISK);
+    go_live(&mut guest, Window::Block);
+    assert_eq!(guest.place(Window::Block, 0), Ok(0));
+    assert_eq!(guest.set_place(Window::Block, 0, 65535), Ok(()));
+    assert_eq!(guest.place(Window::Block, 0), Ok(65535));
+    request(&memory, 0, 1, WRITE);
+    offer(&memory, DISK, 0);
+    let pending = guest.write(Window::Block, NOTIFY, 4, 0).unwrap();
+    assert!(pending.io);
+    assert_eq!(guest.set_place(Window::Block, 0, 5), Err(Error::Busy));
+    let tag = guest.in_flight().unwrap().first().expect("a tag");
+    guest.complete(tag, Outcome::Done).unwrap();
+    assert_eq!(used(&memory, DISK), (0, 0, 513));
+    assert_eq!(guest.place(Window::Block, 0), Ok(0));
+    assert_eq!(guest.set_place(Window::Block, 1, 0), Err(Error::Idle));
+}
+
 #[test]
 fn requests_are_served_while_others_write() {
     let mut guest = guest_of(&slot());

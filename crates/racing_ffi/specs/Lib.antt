@@ -5,3 +5,4 @@ pub mod Faults
 pub mod Calls
 pub mod Config
 pub mod Create
+pub mod Places

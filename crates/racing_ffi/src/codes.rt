@@ -38,8 +38,8 @@ pub(crate) fn of_progress(progress: Progress) -> u32
     }
 }
 
-// The number of a call that was refused.
-fn of_refusal(why: Refusal) -> u32
+/// The number of a call that was refused.
+pub(crate) fn of_refusal(why: Refusal) -> u32
     ensures { result ≡ refusal_code why }
 {
     match why {

@@ -2,8 +2,8 @@
 //!
 //! Each export takes a handle, does what the session behind it does, and answers a number. `handle` is what C holds, `codes` the
 //! numbers, `pending` what waits once a call is answered. `slot` judges how C describes a guest, `config` is what a guest is made
-//! of. `create` makes a guest and destroys it. `registers`, `console`, `disk` and `fault` have the calls on one, and `window` says
-//! whose a window of a number is.
+//! of. `create` makes a guest and destroys it. `registers`, `console`, `disk`, `fault` and `place` have the calls on one, and
+//! `window` says whose a window of a number is.
 #![tactic(auto)]
 
 mod codes;
@@ -14,6 +14,7 @@ mod disk;
 mod fault;
 mod handle;
 mod pending;
+mod place;
 mod registers;
 mod slot;
 mod window;

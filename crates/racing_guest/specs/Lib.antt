@@ -2,3 +2,4 @@ pub mod Reply
 pub mod Block
 pub mod Console
 pub mod Guest
+pub mod Place

@@ -1,13 +1,16 @@
 //! The block device: its window, and its disk, which its host serves.
 
-ghost use Rattle.std.specs.Prelude.{◌≡◌, ◌*◌, ◌^◌, ◌<◌, ◌≤◌, IfNone, IfOk, IfSome, is_some};
+ghost use Rattle.std.specs.Prelude.{◌≡◌, ◌*◌, ◌^◌, ◌<◌, ◌≤◌, IfNone, IfOk, IfSome, Some, false, is_some};
+ghost use Rattle.std.specs.Bool.{OnTrue, OnFalse};
 ghost use Rattle.guest_memory.specs.Memory.{Memory, SameRange};
 ghost use Rattle.mmio_window.specs.Interrupts.{interrupt_bits};
 ghost use Rattle.mmio_window.specs.Window.{queue_at};
 ghost use Rattle.shared_memory.specs.Sightings.{memory};
 ghost use Rattle.block_device.specs.Extent.{sector_len};
+ghost use Rattle.block_device.specs.Tags.{is_any};
 ghost use Rattle.racing_hosted_disk.specs.Told.{has_effect};
 ghost use Rattle.racing_guest.specs.Block.{IsSoundBlock, IsToldBy, IsWrittenBy, NotifiesBlock, block_register, fresh_block, is_notified, must_wait};
+ghost use Rattle.racing_guest.specs.Place.{block_moved};
 ghost use Rattle.racing_guest.specs.Reply.{is_busy};
 
 mod looking;
@@ -19,6 +22,7 @@ use chain::{Chain, Progress};
 use mmio_window::{Action, DeviceKind, Token, Window, may_stop_queues};
 use racing_hosted_disk::{LookLimits, RacingHostedDisk};
 use racing_ring::Room;
+use racing_window::put_to;
 use shared_memory::{RangesOf, Shared};
 use std::alloc::{AllocError, Allocator, Global};
 use std::marker::Model;
@@ -142,6 +146,18 @@ impl<A: Allocator> RacingBlock<A> {
         ensures sound { IsSoundBlock (memory (M.sightings mem.new)) self.new }
     {
         look(&mut self.window, &mut self.disk, mem, limits, chain, room)
+    }
+
+    /// Puts its queue to this place, while nothing is in flight. False where the device may not serve the queue, or its ring has no
+    /// such place: nothing has changed then.
+    pub fn put_to(&mut self, place: u16) -> bool
+        requires idle { is_any self.old.disk.tags ≡ false }
+        ensures there { result ≡ is_some (block_moved place self.old) }
+        ensures moved { OnTrue result (block_moved place self.old ≡ Some self.new) }
+        ensures kept { OnFalse result (self.new ≡ self.old) }
+        ensures sound { (m : Memory) → IsSoundBlock m self.old → IsSoundBlock m self.new }
+    {
+        put_to(&mut self.window, REQUESTQ, place)
     }
 
     /// Does what the host says of its disk, and looks at its queue where further chains may be taken. `None` where there is

@@ -1,12 +1,14 @@
 //! The console: its window, what is typed to it, and what it puts out.
 
-ghost use Rattle.std.specs.Prelude.{◌≡◌, IfOk, OnErr, false};
+ghost use Rattle.std.specs.Prelude.{◌≡◌, IfOk, OnErr, Some, false, is_some};
+ghost use Rattle.std.specs.Bool.{OnTrue, OnFalse};
 ghost use Rattle.guest_memory.specs.Memory.{Memory, SameRange};
 ghost use Rattle.mmio_window.specs.Interrupts.{interrupt_bits};
 ghost use Rattle.mmio_window.specs.Writing.{action_of};
 ghost use Rattle.shared_memory.specs.Sightings.{memory};
 ghost use Rattle.console_device.specs.Input.{fitting};
 ghost use Rattle.racing_guest.specs.Console.{IsActedOn, IsRefused, IsSoundConsole, Receives, Transmits, console_register, fresh_console, with_console_written, with_size, with_typed};
+ghost use Rattle.racing_guest.specs.Place.{console_moved};
 ghost use Rattle.racing_guest.specs.Reply.{is_busy};
 
 mod serving;
@@ -19,6 +21,7 @@ use mmio_window::{Action, DeviceKind, Window};
 use racing_console::{RacingReceive, RacingTransmit};
 use racing_ring::Room;
 use racing_service::Limits;
+use racing_window::put_to;
 use shared_memory::{RangesOf, Shared};
 use std::alloc::{Allocator, Global};
 use std::marker::Model;
@@ -83,6 +86,17 @@ impl<A: Allocator> RacingConsole<A> {
         ensures { result ≡ console_register offset width self.now }
     {
         self.window.read(offset, width, &self.device.config())
+    }
+
+    /// Puts the queue of this number to this place. False where the device may not serve it, or its ring has no such place: nothing
+    /// has changed then.
+    pub fn put_to(&mut self, q: u16, place: u16) -> bool
+        ensures there { result ≡ is_some (console_moved q place self.old) }
+        ensures moved { OnTrue result (console_moved q place self.old ≡ Some self.new) }
+        ensures kept { OnFalse result (self.new ≡ self.old) }
+        ensures sound { (m : Memory) → IsSoundConsole m self.old → IsSoundConsole m self.new }
+    {
+        put_to(&mut self.window, q, place)
     }
 
     /// Writes its window's registers, and does what the write leaves to be done: a service of the queue that it notifies, or the

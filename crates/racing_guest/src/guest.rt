@@ -8,6 +8,7 @@ ghost use Rattle.racing_guest.specs.Guest.{IsServedAgain, IsSoundGuest, WritesGu
 ghost use Rattle.racing_guest.specs.Reply.{is_busy};
 
 mod outside;
+mod place;
 mod view;
 
 use crate::block::RacingBlock;

@@ -2,3 +2,4 @@ pub mod Due
 pub mod Judging
 pub mod Answering
 pub mod Session
+pub mod Place

@@ -1,7 +1,7 @@
 //! Which queues are to be served once more.
 
 ghost use Rattle.std.specs.Prelude.{◌≡◌};
-ghost use Rattle.racing_session.specs.Due.{due_after, due_by, is_any_due, none_due, with_due};
+ghost use Rattle.racing_session.specs.Due.{due_after, due_by, is_any_due, is_due, none_due, with_due};
 
 use chain::Progress;
 use racing_guest::{GuestQueue, Reply};
@@ -35,6 +35,17 @@ impl Due {
         ensures { result ≡ is_any_due self }
     {
         self.block | self.receive | self.transmit
+    }
+
+    /// Whether this queue is.
+    pub(crate) fn has(self, queue: GuestQueue) -> bool
+        ensures { result ≡ is_due queue self }
+    {
+        match queue {
+            GuestQueue::Block => self.block,
+            GuestQueue::Receive => self.receive,
+            GuestQueue::Transmit => self.transmit,
+        }
     }
 
     /// Those behind a call that is answered so.

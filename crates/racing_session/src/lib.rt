@@ -23,7 +23,7 @@ pub use guest_memory::{MemoryFault, RegionSpec, Regions};
 pub use laws::{what_is_due_stays, what_the_host_is_told_lies_inside};
 pub use mmio_window::FaultNote;
 pub use progress::{Progress, Refusal};
-pub use racing_guest::{GuestSpec, GuestWindow};
+pub use racing_guest::{GuestQueue, GuestSpec, GuestWindow};
 pub use racing_hosted_disk::LookLimits;
 pub use session::RacingSession;
 pub use spec::RacingSpec;

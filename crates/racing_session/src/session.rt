@@ -7,6 +7,7 @@ ghost use Rattle.racing_session.specs.Session.{new_session, waits_of};
 
 mod console;
 mod disk;
+mod place;
 mod registers;
 
 use crate::due::Due;

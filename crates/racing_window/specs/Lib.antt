@@ -2,5 +2,6 @@ pub mod Queue
 pub mod Layout
 pub mod Lying
 pub mod Serving
+pub mod Place
 pub mod Laws
 pub mod Lasting
