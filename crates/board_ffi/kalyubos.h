@@ -376,10 +376,10 @@ uint32_t kalyubos_write(struct kalyubos *board, uint8_t slot, uint8_t window, ui
  * then waits. The line of a further device moves at the end of its service, as kalyubos_device_pending tells.
  *
  * From MORE until the end of the service the guest waits as in a long call. Every call for its slot but this one is
- * answered BUSY then and changes nothing, except kalyubos_interrupts, kalyubos_device_pending, kalyubos_disturbed,
- * kalyubos_counters, kalyubos_last_fault, kalyubos_in_flight, kalyubos_operation, kalyubos_keep_pages and
- * kalyubos_take_output; kalyubos_completed answers IDLE where nothing is in flight with its tag. Calls for other slots
- * may stand in between, and no guest sees that one paused.
+ * answered BUSY then and changes nothing, except kalyubos_interrupts, kalyubos_lines, kalyubos_device_pending,
+ * kalyubos_disturbed, kalyubos_counters, kalyubos_last_fault, kalyubos_in_flight, kalyubos_operation,
+ * kalyubos_keep_pages and kalyubos_take_output; kalyubos_completed answers IDLE where nothing is in flight with its tag.
+ * Calls for other slots may stand in between, and no guest sees that one paused.
  */
 KALYUBOS_LOOK_AT_IT
 uint32_t kalyubos_go_on(struct kalyubos *board, uint8_t slot, struct kalyubos_pending *pending);
@@ -592,6 +592,12 @@ uint32_t kalyubos_resize_device(struct kalyubos *board, uint8_t slot, uint8_t wi
 /* InterruptStatus of the block window and the console window. A window's line is high while its word isn't 0. */
 uint32_t kalyubos_interrupts(const struct kalyubos *board, uint8_t slot, uint8_t *block, uint8_t *console);
 
+/*
+ * The lines of all windows of the slot: bit n of `lines` is set where the line of window n is high. No other bit is set.
+ * It touches no guest memory.
+ */
+uint32_t kalyubos_lines(const struct kalyubos *board, uint8_t slot, uint32_t *lines);
+
 /* Whether a call of the image ever failed for the slot: never, since the image is in memory, or there is none. */
 uint32_t kalyubos_disturbed(const struct kalyubos *board, uint8_t slot, bool *disturbed);
 
@@ -684,7 +690,7 @@ uint32_t kalyubos_save(const struct kalyubos *board, uint8_t slot, uint8_t *into
  *  - notifies each queue of each further device, since a driver that did so before the save doesn't again: it writes 0,
  *    then 1, to QueueNotify (0x050) of their windows by kalyubos_write. What is on offer is served, and else nothing
  *    happens;
- *  - sets the lines of all windows, by `pending` and by kalyubos_device_pending;
+ *  - sets the lines of all windows, by kalyubos_lines;
  *  - makes a write again that was answered NO_ROOM, and starts the guest's CPUs.
  */
 KALYUBOS_LOOK_AT_IT

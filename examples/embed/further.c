@@ -84,6 +84,14 @@ static uint32_t wait(uint8_t slot, uint8_t window, struct kalyubos_device_pendin
     return answer;
 }
 
+static uint32_t lines_of(uint8_t slot, uint32_t *lines)
+{
+    *lines = UNTOLD;
+    uint32_t answer = kalyubos_lines(&board, slot, lines);
+    need(answer == KALYUBOS_DONE || *lines == UNTOLD, "a refused question tells lines", answer);
+    return answer;
+}
+
 /* What all calls for a further device answer, where they answer the same; kalyubos_device_pending answers this. */
 static void all_answer(uint8_t slot, uint8_t window, uint32_t answer, uint32_t pending_answer)
 {
@@ -161,6 +169,7 @@ static void disk_answers(uint8_t slot, uint8_t window, uint32_t tags_answer, uin
 static void check_no_board(void)
 {
     uint32_t value;
+    need(lines_of(0, &value) == KALYUBOS_NO_BOARD, "lines without a board", 0);
     for (unsigned window = 0; window < 256; window++) {
         uint32_t answer = window < KALYUBOS_DEVICE ? KALYUBOS_BAD_WINDOW : KALYUBOS_NO_BOARD;
         need(load(0, (uint8_t)window, &value) == KALYUBOS_NO_BOARD && store(0, (uint8_t)window, STATUS, 0) == KALYUBOS_NO_BOARD,
@@ -437,6 +446,30 @@ static void check_output(void)
     need(take(0, CONSOLE, into, sizeof into, &count) == KALYUBOS_DONE && count == 0, "output behind the last", count);
 }
 
+/* In each window in turn a driver offers more chains than its queue has places (2.7.13), which raises the line of that window alone
+ * (2.1.2), and no other guest's. Each falls as its driver acknowledges that. */
+static void check_lines(void)
+{
+    enum { PLACES = 4, CHANGED = 2 };
+    const struct descriptor chain = { MEMORY + DATA, 4, WRITE, 0 };
+    uint32_t lines, high = 0;
+    need(lines_of(2, &lines) == KALYUBOS_BAD_SLOT, "lines of no guest", 0);
+    for (uint8_t window = 0; window < NO_WINDOW; window++)
+        need(store(0, window, STATUS, 0) == KALYUBOS_DONE, "a reset", window);
+    need(lines_of(0, &lines) == KALYUBOS_DONE && lines == 0, "lines behind resets", lines);
+    for (uint8_t window = NO_WINDOW; window-- > 0;) {
+        need(offer(window, 0, &chain, sizeof chain, PLACES + 1) == KALYUBOS_DONE, "more chains than places", window);
+        high |= (uint32_t)1 << window;
+        need(lines_of(0, &lines) == KALYUBOS_DONE && lines == high, "lines that rise", lines);
+        need(lines_of(1, &lines) == KALYUBOS_DONE && lines == 0, "another guest's lines", lines);
+    }
+    for (uint8_t window = NO_WINDOW; window-- > 0;) {
+        need(store(0, window, ACK, CHANGED) == KALYUBOS_DONE, "an acknowledgement", window);
+        high &= ~((uint32_t)1 << window);
+        need(lines_of(0, &lines) == KALYUBOS_DONE && lines == high, "lines that fall", lines);
+    }
+}
+
 /* ---- a disk at work */
 
 static const struct descriptor request[] = { { 0x80000000 + DATA, 16, NEXT, 1 }, { 0x80000000 + DATA + 0x200, 512, NEXT | WRITE, 2 },
@@ -520,6 +553,7 @@ static void check_pause(void)
     all_answer(0, NO_WINDOW, KALYUBOS_BUSY, KALYUBOS_BAD_WINDOW);
     disk_answers(0, NO_WINDOW, KALYUBOS_BAD_WINDOW, KALYUBOS_BAD_WINDOW, KALYUBOS_BUSY);
     disk_answers(0, KALYUBOS_CONSOLE, KALYUBOS_BAD_WINDOW, KALYUBOS_BAD_WINDOW, KALYUBOS_BAD_WINDOW);
+    need(lines_of(0, &value) == KALYUBOS_DONE, "lines in a pause", value);
     need(in_flight(0, DISK, &tags) == KALYUBOS_DONE && tags == 1, "what is in flight in a pause", tags);
     need(operation(0, DISK, 0, &asked) == KALYUBOS_DONE && complete(0, DISK, 0) == KALYUBOS_BUSY, "a completion in a pause", 0);
     need(operation(0, DISK, 1, &asked) == KALYUBOS_IDLE && complete(0, DISK, 1) == KALYUBOS_IDLE, "a free tag in a pause", 0);
@@ -551,6 +585,7 @@ static void check_board(struct kalyubos_config *config, uint32_t chains)
     check_console();
     check_typed();
     check_output();
+    check_lines();
     check_disk_at_work();
     check_image_disk();
     if (chains != 0)

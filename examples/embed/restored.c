@@ -1,7 +1,7 @@
 /*
  * A guest is saved while each of its further devices has a chain on offer that its driver has notified of, and is rolled back
  * and moved. What waits in these devices is in no snapshot: the host hands it in again, in any order, and notifies each queue
- * in the driver's place.
+ * in the driver's place. Behind each restore it sets the lines of all windows by one call.
  */
 #include <inttypes.h>
 #include <stdio.h>
@@ -21,6 +21,7 @@ enum { HEADER = 12, FRAME = 64, FRAMES = 64, OUTPUT = 32768, OUTPUTS = 2, ROOM =
 static const uint64_t MEMORY = 0x80000000;
 static struct kalyubos board;
 static uint8_t *memory;
+static bool is_high[WINDOWS]; /* the guest's interrupt lines, by window */
 
 /* A guest that is stopped: its devices and its memory. */
 struct saved {
@@ -72,11 +73,21 @@ static void save(struct saved *saved)
     memcpy(saved->memory, memory, MEMORY_LEN);
 }
 
+static void set_lines(void)
+{
+    uint32_t lines;
+    answers_done(kalyubos_lines(&board, 0, &lines), "lines");
+    for (uint8_t window = 0; window < WINDOWS; window++)
+        is_high[window] = lines >> window & 1;
+    need(lines >> WINDOWS == 0, "a line of no window", lines);
+}
+
 static void restore(const struct saved *saved)
 {
     struct kalyubos_pending pending;
     memcpy(memory, saved->memory, MEMORY_LEN);
     answers_done(kalyubos_restore(&board, 0, saved->devices, saved->len, &pending), "restore");
+    set_lines();
 }
 
 /*
@@ -181,6 +192,15 @@ static void are_used(uint16_t filled, uint16_t frames, uint16_t outputs, const c
     }
 }
 
+/* A line is high from the first chain on that its device used: the card's and the console's have used some at the save, and the entropy
+ * device has once it was supplied. No driver brought up the slot's own disk and console. */
+static void are_high(bool is_supplied, const char *what)
+{
+    const bool wanted[WINDOWS] = { [ENTROPY] = is_supplied, [CARD] = true, [CONSOLE] = true };
+    for (uint8_t window = 0; window < WINDOWS; window++)
+        need(is_high[window] == wanted[window], what, window);
+}
+
 /* Each driver waits for its host: for bytes, a frame and input, and for room for a frame and an output more. */
 static void offer_all(void)
 {
@@ -207,7 +227,10 @@ static void roll_back(const struct saved *saved)
         continue;
     need(take_all(CARD) == (FRAMES + 1) * FRAME && take_all(CONSOLE) == (OUTPUTS + 1) * OUTPUT, "what was sent", 0);
     are_used(1, FRAMES + 1, OUTPUTS + 1, "chains that are used");
+    set_lines();
+    are_high(true, "a line before a roll-back");
     restore(saved);
+    are_high(false, "a line behind a roll-back");
     are_used(0, FRAMES, OUTPUTS, "chains that were used at the save");
     starve(false, "a driver that waits for nothing but a service");
     notify_devices();
@@ -229,6 +252,8 @@ static void move(const struct saved *saved, uint32_t chains, bool before)
     are_used(!before, FRAMES, OUTPUTS, "chains that are used before the host notifies");
     starve(false, "a driver that has what it waited for");
     notify_devices();
+    set_lines();
+    are_high(true, "a line on another board");
     are_used(1, FRAMES + 1, OUTPUTS + 1, "chains that are used on another board");
     need(take_all(CARD) == FRAME && take_all(CONSOLE) == OUTPUT, "what is sent there", 0);
     answers_done(kalyubos_destroy(&board), "destroy");

@@ -139,8 +139,10 @@ static void ask_always(void)
     size_t len;
     struct kalyubos_counters counters;
     struct kalyubos_fault fault;
+    uint32_t lines;
     uint64_t tags;
     done(kalyubos_interrupts(&board, 0, &block, &console), "interrupts");
+    done(kalyubos_lines(&board, 0, &lines), "lines");
     done(kalyubos_disturbed(&board, 0, &disturbed), "disturbed");
     done(kalyubos_counters(&board, 0, &counters), "counters");
     done(kalyubos_last_fault(&board, 0, KALYUBOS_BLOCK, &fault), "last_fault");

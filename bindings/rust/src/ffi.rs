@@ -295,6 +295,7 @@ unsafe extern "C" {
         block: *mut u8,
         console: *mut u8,
     ) -> u32;
+    pub fn kalyubos_lines(board: *const Handle, slot: u8, lines: *mut u32) -> u32;
     pub fn kalyubos_disturbed(board: *const Handle, slot: u8, disturbed: *mut bool) -> u32;
     pub fn kalyubos_counters(board: *const Handle, slot: u8, counters: *mut Counters) -> u32;
     pub fn kalyubos_last_fault(

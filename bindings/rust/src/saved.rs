@@ -71,8 +71,8 @@ impl Board {
     /// board, and tells what then waits. Memory and disk stay. A slot that was on hold when it was saved is so behind it:
     /// [`release`](Board::release) begins there what stayed on offer.
     ///
-    /// Before it the host puts back the guest's memory and its disk. Behind it the host moves both lines by what is told,
-    /// makes a write again that was [`Error::NoRoom`], and starts the guest's CPUs.
+    /// Before it the host puts back the guest's memory and its disk. Behind it the host sets the lines of all windows by
+    /// [`lines`](Board::lines), makes a write again that was [`Error::NoRoom`], and starts the guest's CPUs.
     pub fn restore(&mut self, slot: u8, from: &[u8]) -> Result<Pending, RestoreError> {
         let mut told = ffi::Pending::default();
         RestoreError::check(unsafe {

@@ -210,6 +210,17 @@ fn a_disk_is_asked_by_its_window() {
     board.memory(0, run.at).unwrap()[..512].fill(7);
     assert!(!board.complete(0, window, 0, Outcome::Done).unwrap().io);
     assert_eq!(board.device_pending(0, 1).unwrap().interrupt, 1);
+    let lines = board.lines(0).unwrap();
+    assert!(lines.is_high(window));
+    for low in [
+        Window::Block,
+        Window::Console,
+        Window::Device(0),
+        Window::Device(u8::MAX),
+    ] {
+        assert!(!lines.is_high(low));
+    }
+    assert_eq!(board.lines(1), Err(Error::BadSlot));
     assert_eq!(board.memory(0, MEMORY + 0x500).unwrap()[0], 0);
     assert_eq!(used(&mut board), (1, 1)); // 513 bytes
     assert_eq!(board.operation(0, window, 0), Ok(None));

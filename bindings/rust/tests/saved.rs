@@ -83,6 +83,8 @@ fn a_guest_goes_on_where_it_was_saved() {
         (pending.interrupts.block, pending.interrupts.console),
         (0, 1)
     );
+    let lines = second.lines(0).expect("lines");
+    assert!(lines.is_high(Window::Console) && !lines.is_high(Window::Block));
     assert_eq!(second.save(0).expect("a snapshot"), devices);
 
     second.memory(0, MEMORY).expect("a memory")[0x202] = 2;

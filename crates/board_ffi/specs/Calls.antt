@@ -20,7 +20,7 @@ pub use Rattle.board.specs.declared.reply.Reply.{Reply}
 pub use Rattle.board_ffi.specs.Devices.{HasDevicePending, IsNoDevice, IsTooShort, TakesFrame}
 pub use Rattle.board_ffi.specs.Disk.{HasInFlight, IsAskedFor, IsAtRest, IsNoDisk}
 pub use Rattle.board_ffi.specs.Events.{Completes, CopiesImage, GoesOn, HasImage, HasMemory, HasNoRegion, IsBusy, IsOutside, KeepsPages, LacksBits, MovesOutput, PausesBehind, Restores, Says, Takes, Writes}
-pub use Rattle.board_ffi.specs.Kept.{HasSavedLen, HasWords, IsMissing, IsThere, IsUndisturbed, Saves}
+pub use Rattle.board_ffi.specs.Kept.{HasLines, HasSavedLen, HasWords, IsMissing, IsThere, IsUndisturbed, Saves}
 
 -- A call on a handle: where it holds no board it answers 1 and goes on holding none; a board does this, and
 -- is still there.

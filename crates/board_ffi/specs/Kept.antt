@@ -5,6 +5,7 @@ use Rattle.std.specs.Option.{option_map}
 use Rattle.board.specs.Saved.{IsSavedTo, snapshot_of}
 use Rattle.board.specs.Slot.{BoardSlot, interrupt_words}
 use Rattle.session.specs.Session.{SessionState}
+use Rattle.session.specs.Windows.{lines_of}
 use Rattle.board_ffi.specs.Codes.{is_saving}
 use Rattle.board_ffi.specs.Events.{IsAtWork}
 
@@ -29,6 +30,11 @@ pub record IsMissing (slot code : ℕ) (old new : SessionState) : Type 0 where
 -- these are the interrupt words of a slot
 pub record HasWords (slot block console : ℕ) (old new : SessionState) : Type 0 where
   pub words : words_at slot old ≡ Some (block, console)
+  pub kept : new ≡ old
+
+-- these are the lines of a slot's windows
+pub record HasLines (slot lines : ℕ) (old new : SessionState) : Type 0 where
+  pub are : option_map lines_of (slice_get old.slots slot) ≡ Some lines
   pub kept : new ≡ old
 
 -- there is such a slot, and no call of its image failed

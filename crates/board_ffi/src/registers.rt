@@ -2,7 +2,7 @@
 
 ghost use Rattle.std.specs.Prelude.{◌≡◌, ◌≢◌, None, Some};
 ghost use Rattle.board.specs.declared.event.DeviceEvent.{DeviceEvent};
-ghost use Rattle.board_ffi.specs.Calls.{Calls, EventKind, GoesOn, HasWords, IsMissing, IsUndisturbed, Reply, Takes, Tells, TellsOf, Writes, device_at, read_event, write_event};
+ghost use Rattle.board_ffi.specs.Calls.{Calls, EventKind, GoesOn, HasLines, HasWords, IsMissing, IsUndisturbed, Reply, Takes, Tells, TellsOf, Writes, device_at, read_event, write_event};
 
 use crate::codes::{BAD_SLOT, DONE, of_served, told};
 use crate::handle::{Handle, session_of};
@@ -132,6 +132,23 @@ pub extern "C" fn kalyubos_interrupts(
     };
     *block = block_word;
     *console = console_word;
+    DONE
+}
+
+/// Tells the interrupt lines of all windows of a guest: bit n is set where that of window n is raised (4.2.2).
+#[unsafe(no_mangle)]
+pub extern "C" fn kalyubos_lines(board: &mut Handle, slot: u8, lines: &mut u32) -> u32
+    ensures told { result ≡ 0 → Calls board.old.session board.new.session result
+        (HasLines slot lines.new) }
+    ensures missing { result ≢ 0 → Calls board.old.session board.new.session result
+        (IsMissing slot result) }
+    ensures kept { result ≢ 0 → lines.new ≡ lines.old }
+{
+    let session = session_of!(board);
+    let Some(bits) = session.lines(slot) else {
+        return BAD_SLOT;
+    };
+    *lines = bits;
     DONE
 }
 

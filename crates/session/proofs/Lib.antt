@@ -18,6 +18,7 @@ pub mod Made
 pub mod InPlace
 pub mod Restored
 pub mod Telling
+pub mod Windows
 pub mod Loans
 pub mod Parts
 pub mod Paused

@@ -12,5 +12,6 @@ pub mod Course
 pub mod Alone
 pub mod Operations
 pub mod Devices
+pub mod Windows
 pub mod Plugging
 pub mod Paced

@@ -1,6 +1,6 @@
 //! What a guest does to its devices' registers, and the words that stand for its interrupt lines.
 
-ghost use Rattle.std.specs.Prelude.{◌≡◌, ◌⊎◌, ◌↔◌, ◌<◌, ◌≤◌, IfOk, IsErrOf, IsSome, IsSomeAnd, length, false};
+ghost use Rattle.std.specs.Prelude.{◌≡◌, ◌⊎◌, ◌↔◌, ◌<◌, ◌≤◌, IfOk, IfSome, IsErrOf, IsSome, IsSomeAnd, length, false};
 ghost use Rattle.std.specs.List.{slice_get};
 ghost use Rattle.std.specs.Option.{option_map};
 ghost use Rattle.board.specs.declared.event.EventKind.{EventKind};
@@ -13,6 +13,7 @@ ghost use Rattle.board.specs.declared.slot_disk.SlotDisk.{SlotDisk};
 ghost use Rattle.session.specs.Operations.{HasAsked, HoldsUp};
 ghost use Rattle.session.specs.Pausing.{IsToldCall, WentOn};
 ghost use Rattle.session.specs.Session.{IsIdle, waits_at};
+ghost use Rattle.session.specs.Windows.{device_line, line_by, lines_of};
 
 use crate::progress::{Progress, has_asked, served};
 use crate::refusal::Refusal;
@@ -127,6 +128,34 @@ impl<A: Allocator> Session<A> {
         self.board.interrupts(slot)
     }
 
+    /// The interrupt lines of all windows of the slot, as a set of bits: bit 0 is set where the line of the block window is high,
+    /// bit 1 for the console window, and bit 2 + n for that of further device n. A line is high while its window's
+    /// InterruptStatus isn't 0 (4.2.2).
+    #[tactic(auto, using(crate::proofs::Windows::all_lines))]
+    pub fn lines(&self, slot: u8) -> Option<u32>
+        ensures { result ≡ option_map lines_of (slice_get self.now.slots slot) }
+    {
+        let (block, console) = self.board.interrupts(slot)?;
+        let low = self.device_line(slot, 0)
+            + 2 * self.device_line(slot, 1)
+            + 4 * self.device_line(slot, 2);
+        let high = self.device_line(slot, 3)
+            + 2 * self.device_line(slot, 4)
+            + 4 * self.device_line(slot, 5);
+        Some(line_by(block) + 2 * line_by(console) + 4 * (low + 8 * high))
+    }
+
+    // The line of a further device's window: 1 where it is high, and 0 where it is low or there is no such device.
+    fn device_line(&self, slot: u8, device: u8) -> u32
+        ensures value { IfSome (slice_get self.now.slots slot) (λ found. result ≡ device_line device found) }
+        ensures bit { result ≤ 1 }
+    {
+        match self.board.device(slot, device) {
+            Some(found) => line_by(found.interrupts()),
+            None => 0,
+        }
+    }
+
     /// Whether a call of the image failed in an event of the slot. None of an image in memory does.
     pub fn disturbed(&self, slot: u8) -> Option<bool>
         ensures { result ≡ option_map (λ found. false) (slice_get self.now.slots slot) }
@@ -155,4 +184,12 @@ impl<A: Allocator> Session<A> {
     {
         self.board.slots()
     }
+}
+
+// The line of a window with this InterruptStatus: 1 where it is high, else 0.
+fn line_by(word: u8) -> u32
+    ensures value { result ≡ line_by word }
+    ensures bit { result ≤ 1 }
+{
+    u32::from(word != 0)
 }
