@@ -117,6 +117,7 @@ def to_copy():
 AFTER = {name: ["matrix"] for name in ("links", "named", "words", "rules", "against", "no device", "reports", "packaged", "to copy", "helps")}
 CHECKS = {
     "matrix": lambda: script(TOP / "crates/conformance/matrix/make"),
+    "rows": lambda: script(TOP / "crates/conformance/row", "--check"),
     "rules": lambda: script(TOP / "crates/conformance/check-rules"),
     "examples": lambda: script(TOP / "examples/check"),
     "against": against,

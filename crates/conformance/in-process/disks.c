@@ -1,6 +1,6 @@
 /*
  * What an operation asks is done sector by sector, as the cache of the other boards does it, so that the calls of the image
- * have the numbers of data/scenarios/README.md: the n-th of them fails where `fails` has n. A failed operation has done
+ * have the numbers of data/rows/README.md: the n-th of them fails where `fails` has n. A failed operation has done
  * the sectors before that call. The flush behind an OUT or ZEROES is left out where the driver can flush itself.
  *
  * Each operation is asked for twice, and checked: its runs lie inside the guest's memory, and its sectors inside its disk.

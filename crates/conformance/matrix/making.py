@@ -8,8 +8,8 @@ import itertools
 import json
 import os
 
-from suite import made, scenarios
-from suite.made import DATA, MADE, STATE
+from suite import made
+from suite.made import MADE, STATE
 
 from . import page, quick, rows
 from .story import Disagrees
@@ -78,13 +78,19 @@ def told(number):
 def by_rows(table):
     """Makes a table of rows."""
     try:
-        found = rows.read(made.text_of(os.path.join(DATA, f"{table}.rows")), table.partition("/")[2])
+        found = rows.table(table.partition("/")[2])
+        files = {path: what for row in found.rows.values() for path, what in put("scenarios", row.name, row.files()).items()}
     except rows.NoRow as wrong:
         raise Wrong(str(wrong)) from None
-    files = {}
-    for name, one in found.items():
-        files.update(put("scenarios", name, one))
-    return entry(table, files, [(name, "", "scenarios", False) for name in found])
+    return entry(table, files, [(row.name, row.about, "scenarios", is_in_version_1(row)) for row in found.rows.values()],
+                 folders={found.subject: found.head})
+
+
+def is_in_version_1(row):
+    """Whether the gate's program replays a row in version 2 too."""
+    files = row.files()
+    return (files[".trace"].startswith(b"vreplay 1\n") and not files[".records"].startswith(b"fault trace ")
+            and files[".trace"].count(b"\nslot ") <= 16)
 
 
 def entry(table, files, scenarios, **more):
@@ -165,7 +171,7 @@ def keep(known):
 def listed(known, part, head):
     """The page that lists the scenarios of a part."""
     groups = []
-    for name in made.modules():
+    for name in made.tables():
         for scenario, about, where, _ in known[name]["scenarios"]:
             folder = scenario.partition("/")[0]
             if where == part:
@@ -192,6 +198,7 @@ def twice(known):
 
 def write_pages(known):
     """Writes the lists of the scenarios and the gate's output."""
+    write("scenarios/README.md", listed(known, "scenarios", page.ROWS_HEAD).encode())
     write("matrix/README.md", listed(known, "matrix", page.LIST_HEAD).encode())
     write("large/README.md", listed(known, "large", page.LARGE_HEAD).encode())
     if os.path.exists(STDOUT_END):
@@ -200,16 +207,9 @@ def write_pages(known):
 
 def gate_output(known):
     """What the gate's program must write: a line for each scenario that it replays, and behind them the lines of stdout.end."""
-    hand = [(scenario.name, is_replayed_twice(scenario)) for scenario in scenarios.load_folder(scenarios.FOLDERS[0])]
-    made_ones = [(name, twice) for table in made.modules() for name, _, part, twice in known[table]["scenarios"] if part == "matrix"]
     lines = []
-    for part, names in (("scenarios", hand), ("matrix", made_ones)):
+    for part in ("scenarios", "matrix"):
+        names = [(name, twice) for table in made.tables() for name, _, where, twice in known[table]["scenarios"] if where == part]
         lines += [f"{name} ok\n" for name, _ in names]
         lines.append(f"{part}: {sum(twice for _, twice in names)} give the same in version 2\n")
     return "".join(lines) + made.text_of(STDOUT_END)
-
-
-def is_replayed_twice(scenario):
-    """Whether the gate's program replays a hand scenario in version 2 too."""
-    text, records = scenario.read(".trace"), scenario.read(".records")
-    return text.startswith(b"vreplay 1\n") and not records.startswith(b"fault trace ") and text.count(b"\nslot ") <= 16

@@ -3,10 +3,16 @@ import fnmatch
 import os
 import re
 
+ROWS_HEAD = """# Worked scenarios
+
+What guests do, and what a virtio-mmio board answers, worked out by hand. `matrix/make` makes the files and this list from
+[the rows](../rows/README.md).
+"""
+
 LIST_HEAD = """# The matrix
 
 Scenarios that `matrix/make` makes from the tables of [matrix](../../matrix), in the form of
-[the worked ones](../scenarios/README.md#what-a-pair-is). [MATRIX.md](../../MATRIX.md) says which field, bit, position and end each
+[the worked ones](../rows/README.md#what-a-pair-is). [MATRIX.md](../../MATRIX.md) says which field, bit, position and end each
 shows. Nothing here is written by hand.
 """
 
@@ -29,9 +35,14 @@ A row shows each thing of its first column in each case of its second. `*` stand
 
 def listed(folders, head):
     """The page of data/matrix or of data/large: folders with their sentences, and the names and sentences of their scenarios."""
-    parts = [f"\n## {folder}\n\n{sentence}\n\n" + "".join(f"- `{name}`: {about}\n" for name, about in scenarios)
+    parts = ["\n\n".join(filter(None, (f"\n## {folder}", sentence, "\n".join(map(named, scenarios))))) + "\n"
              for folder, sentence, scenarios in folders]
     return head + "".join(parts)
+
+
+def named(scenario):
+    """A scenario's line in a list."""
+    return ": ".join(filter(None, (f"- `{scenario[0]}`", scenario[1])))
 
 
 def part_of(table, stories):

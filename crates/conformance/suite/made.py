@@ -1,6 +1,6 @@
 """Whether what is made of the suite is there as its tables have it; where it isn't, it is made.
 
-Scenarios are made by `matrix/make` from the tables of the matrix and from data/rows. Of each table the file .made beside them says of
+All scenarios are made by `matrix/make`: from the tables of the matrix, and from those of data/rows. Of each table the file .made beside them says of
 which sources it was made, and the sizes of its files; so where nothing changed nothing is made. They are made in data, or in the user's
 cache where a package or another user owns the suite.
 """
@@ -15,13 +15,16 @@ import sys
 
 CRATE = os.path.dirname(os.path.dirname(os.path.abspath(__file__)))
 DATA, ROWS, MATRIX = os.path.join(CRATE, "data"), os.path.join(CRATE, "data", "rows"), os.path.join(CRATE, "matrix")
+# The parts that each table of rows may take.
+COMMON = os.path.join(ROWS, "common.parts")
 # A package puts this file beside the suite: its folder then isn't written to, whoever calls it.
 PACKAGED = os.path.join(CRATE, "packaged")
 IS_OWN = os.access(DATA, os.W_OK) and not os.path.exists(PACKAGED)
 CACHE = os.path.join(os.environ.get("XDG_CACHE_HOME") or os.path.join(os.path.expanduser("~"), ".cache"), "kalyubos")
 # Where scenarios are made, and where else what is kept of a run goes.
 MADE, OUT = (DATA, os.path.join(CRATE, "out")) if IS_OWN else (os.path.join(CACHE, "data"), os.path.join(CACHE, "out"))
-STATE, PAGES = os.path.join(MADE, ".made"), [os.path.join(MADE, name, "README.md") for name in ("matrix", "large")]
+PARTS = ("scenarios", "matrix", "large")
+STATE, PAGES = os.path.join(MADE, ".made"), [os.path.join(MADE, name, "README.md") for name in PARTS]
 MODEL = (os.path.join(CRATE, "mutants", "model.py"), os.path.join(CRATE, "..", "..", "fuzz", "reader.py"))
 # The modules that one stands on: `from .NAME import ..`, or `from . import NAME`.
 IMPORTED = re.compile(r"^from \.(?:(\w+) import | import (\w+)$)", re.MULTILINE)
@@ -37,7 +40,8 @@ def modules():
 
 
 def row_tables():
-    return sorted(name.removesuffix(".rows") for name in os.listdir(ROWS) if name.endswith(".rows")) if os.path.isdir(ROWS) else []
+    """The tables of rows, each a subject, in the order of their page: a name a line in data/rows/TABLES."""
+    return text_of(os.path.join(ROWS, "TABLES")).split()
 
 
 def tables():
@@ -69,7 +73,7 @@ def sources_of(table):
         if module not in found:
             found.add(module)
             waiting += imports_of(module)
-    own = [os.path.join(DATA, f"{table}.rows")] if table.startswith("rows/") else MODEL
+    own = [COMMON, os.path.join(DATA, f"{table}.rows")] if table.startswith("rows/") else MODEL
     return [*(os.path.join(MATRIX, f"{module}.py") for module in sorted(found)), *own]
 
 
@@ -131,8 +135,8 @@ def ensure():
     known = state()
     if set(known) == set(tables()) and not stale(known) and all(map(os.path.exists, PAGES)):
         return
-    print(f"The scenarios of the tables are made in {MADE}: about a minute of processor time at first.", file=sys.stderr, flush=True)
+    print(f"The scenarios are made in {MADE}: about a minute of processor time at first.", file=sys.stderr, flush=True)
     ran = subprocess.run([sys.executable, os.path.join(MATRIX, "make"), "--needed"], stdout=subprocess.PIPE, text=True)
     stamps_in.cache_clear()
     if ran.returncode:
-        raise Unmade(f"the scenarios of the tables can't be made: {ran.stdout.strip()}")
+        raise Unmade(f"the scenarios can't be made: {ran.stdout.strip()}")

@@ -1,4 +1,4 @@
-"""The worked scenarios, read from their files; data/scenarios/README.md says what each file is."""
+"""The scenarios, read from their files; data/rows/README.md says what each file is."""
 import fnmatch
 import functools
 import os
@@ -7,8 +7,8 @@ import re
 from . import index, made, trace
 
 CRATE = made.CRATE
-# The worked scenarios, those that are made from tables, and those of these with a large image, which the gate's program doesn't replay.
-FOLDERS = [os.path.join(made.DATA, "scenarios"), os.path.join(made.MADE, "matrix"), os.path.join(made.MADE, "large")]
+# The worked scenarios, those of the matrix, and those of these with a large image, which the gate's program doesn't replay.
+FOLDERS = [os.path.join(made.MADE, part) for part in made.PARTS]
 SECTOR = 512
 # The files that a scenario may have.
 ENDS = (".trace", ".records", ".before", ".fails", ".after")
