@@ -78,7 +78,7 @@ def packaged():
         suite, cache = pathlib.Path(folder, "crates/conformance"), pathlib.Path(folder, "cache/kalyubos")
         suite.mkdir(parents=True)
         cache.mkdir(parents=True)
-        for name in ("data", "matrix", "mutants", "run-on", "suite", "RULES.md", "STANDARD.md"):
+        for name in ("data", "matrix", "mutants", "run-on", "suite", "rules", "STANDARD.md"):
             (suite / name).symlink_to(TOP / "crates/conformance" / name)
         for name in ("docs", "fuzz"):
             pathlib.Path(folder, name).symlink_to(TOP / name)

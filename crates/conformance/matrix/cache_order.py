@@ -10,7 +10,7 @@ from .story import BASE, SECTOR, Slot, Story, plain_image
 TITLE = "The order of reads and writes over a cache"
 HOW = ("Reads (r), writes (w), zeroes (z) and flushes (f) of sectors a to d are one service, over caches of 1 to 4 "
        "sectors. Each read gives what was written last, also where one call of the image fails; which calls there are, "
-       "[the worked scenarios](data/rows/README.md#what-a-pair-is) say.")
+       "[the worked scenarios](rows/README.md#what-a-pair-is) say.")
 COLUMNS = ("What", "Over caches of")
 FOLDERS = {"cache_order": "What reads give behind writes in one service, over small caches.",
            "cache_calls": "The same where each call of the image fails in turn, so which calls there are decides."}

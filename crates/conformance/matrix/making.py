@@ -15,7 +15,7 @@ from . import page, quick, rows
 from .story import Disagrees
 
 CRATE = made.CRATE
-SUMS, MATRIX_PAGE = os.path.join(CRATE, "matrix", "SUMS"), os.path.join(CRATE, "MATRIX.md")
+SUMS = os.path.join(CRATE, "matrix", "SUMS")
 # The last lines of the gate's output, which an archive of the suite hasn't.
 STDOUT_END = os.path.join(CRATE, "stdout.end")
 quick.use()
@@ -197,7 +197,8 @@ def twice(known):
 
 
 def write_pages(known):
-    """Writes the lists of the scenarios and the gate's output."""
+    """Writes the pages of the scenarios and the gate's output."""
+    write("MATRIX.md", matrix_page(known).encode())
     write("scenarios/README.md", listed(known, "scenarios", page.ROWS_HEAD).encode())
     write("matrix/README.md", listed(known, "matrix", page.LIST_HEAD).encode())
     write("large/README.md", listed(known, "large", page.LARGE_HEAD).encode())

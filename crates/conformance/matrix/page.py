@@ -12,13 +12,13 @@ What guests do, and what a virtio-mmio board answers, worked out by hand. `matri
 LIST_HEAD = """# The matrix
 
 Scenarios that `matrix/make` makes from the tables of [matrix](../../matrix), in the form of
-[the worked ones](../rows/README.md#what-a-pair-is). [MATRIX.md](../../MATRIX.md) says which field, bit, position and end each
+[the worked ones](../rows/README.md#what-a-pair-is). [MATRIX.md](../MATRIX.md) says which field, bit, position and end each
 shows. Nothing here is written by hand.
 """
 
 LARGE_HEAD = """# Large disks
 
-Scenarios of [the matrix](../../MATRIX.md) whose image is too large to be written out: **NAME.before** has `zeros N`, the number of its
+Scenarios of [the matrix](../MATRIX.md) whose image is too large to be written out: **NAME.before** has `zeros N`, the number of its
 sectors, each of zeros. `run-on` and `mutants/run` run them; the gate's program, which keeps the image's text, doesn't. Nothing here is
 written by hand.
 """
@@ -26,7 +26,7 @@ written by hand.
 MATRIX_HEAD = """# The matrix of fields, positions, orders and ends
 
 Where each bit of each number that a guest or a trace gives decides alone, and each end, position, order of checks and later round is met.
-`matrix/make` makes this page and the scenarios, in `data/matrix`; [matrix](matrix) has the tables.
+`matrix/make` makes this page and the scenarios, in `data/matrix`; [matrix](../matrix) has the tables.
 
 A row shows each thing of its first column in each case of its second. `*` stands for any text, and a pattern fits no other scenario:
 `run-on --only PATTERN` runs those that it names.

@@ -100,10 +100,10 @@ def of_rules(rules):
         basis = noted(rule.sentence.text) or noted(rule.sentence.line)
         basis = basis or headings.get(f"{rule.document}, {rule.heading}")
         found.append(Basis(basis) if basis else None)
-    wrong = [f"RULES.md:{rule.line}: no basis: {rule.heading} has no row in STANDARD.md"
+    wrong = [f"rules:{rule.line}: no basis: {rule.heading} has no row in STANDARD.md"
              for rule, basis in zip(rules, found) if basis is None]
     known = {f"{rule.document}, {rule.heading}" for rule in rules}
-    return found, wrong + [f"STANDARD.md: RULES.md has no heading {name}" for name in headings if name not in known]
+    return found, wrong + [f"STANDARD.md: no rule stands below a heading {name}" for name in headings if name not in known]
 
 
 def noted(text):

@@ -57,7 +57,7 @@ def rule_lines(scenario):
     named = shown_rules().get(scenario.name, [])
     if not named:
         return [f"it shows: {scenario.about}"] if scenario.about else []
-    more = [f"and {len(named) - MOST} more rules of RULES.md"] if len(named) > MOST else []
+    more = [f"and {len(named) - MOST} more rules of crates/conformance/rules"] if len(named) > MOST else []
     return [f"rule: {rule}" for rule in named[:MOST]] + more
 
 
