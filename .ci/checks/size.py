@@ -10,11 +10,9 @@ OF_LARGER_PAGES = {
     "README.md": 900,
     "bench/README.md": 2500,
     "bindings/rust/README.md": 650,
-    "crates/conformance/MATRIX.md": 11100,
     "crates/conformance/README.md": 1700,
-    "crates/conformance/RULES.md": 11300,
     "crates/conformance/STANDARD.md": 1500,
-    "crates/conformance/data/scenarios/README.md": 3000,
+    "crates/conformance/data/rows/README.md": 680,
     "crates/conformance/peers/QEMU.md": 2600,
     "crates/snapshot/README.md": 750,
     "docs/CHANGING.md": 3400,
@@ -35,16 +33,14 @@ OF_LARGER_PAGES = {
 OF_A_PARAGRAPH = 60
 OF_LONGER_PARAGRAPHS = {
     "bench/README.md": 81,
-    "crates/conformance/MATRIX.md": 97,
     "crates/conformance/README.md": 133,
-    "crates/conformance/RULES.md": 89,
     "crates/conformance/matrix/README.md": 107,
     "crates/conformance/peers/QEMU.md": 86,
     "docs/EMBEDDING.md": 66,
 }
 
-# A list of scenarios that a script makes.
-MADE = "crates/conformance/data/matrix/README.md"
+# What a script makes from the suite's rows.
+MADE = "crates/conformance/data/MATRIX.md"
 
 NO_TEXT = re.compile(r"^ *```.*?^ *```|^ *\|[^\n]*$|^#+ [^\n]*$|^<!--.*?-->", re.MULTILINE | re.DOTALL)
 BORDER = re.compile(r"\n\s*\n|\n(?= *(?:[-*]|\d+\.) )")
