@@ -46,10 +46,14 @@ def note(crates):
             noted(crate).write_text(told(crate), encoding="utf-8")
 
 
+def is_noted(crate):
+    """Whether the crate has the library that the gate proved and built of these sources."""
+    return noted(crate).is_file() and noted(crate).read_text(encoding="utf-8") == told(crate)
+
+
 def is_left(crate):
     """Whether each crate below this one has the library that the gate built of these sources."""
-    below = proving.order(crate)[:-1]
-    return all(noted(name).is_file() and noted(name).read_text(encoding="utf-8") == told(name) for name in below)
+    return all(is_noted(name) for name in proving.order(crate)[:-1])
 
 
 def words(crate, kit):
