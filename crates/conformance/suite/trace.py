@@ -1,9 +1,13 @@
 """The lines of a trace: what each is in words, and which features a driver in it takes or asks for.
 
-docs/formats.md has the text's grammar. Lines that aren't in it are passed over: some scenarios are about just those.
+fuzz/reader.py has the text's grammar. Lines that aren't in it are passed over: some scenarios are about just those.
 """
 import dataclasses
 from typing import List
+
+from . import models
+
+READER = models.reader()
 
 # Offset, name, and whether a driver may read it.
 REGISTERS = {
@@ -45,7 +49,7 @@ def bit_name(window, bit):
 
 
 # The first line of an extended trace.
-EXTENDED = "kalyubos 1\n"
+EXTENDED = READER["EXTENDED"] + "\n"
 
 # Every name that a scenario's features may have.
 BESIDE_BITS = {"guests", "extended", "regions", "hosted", "depth", "held", "devices", "disks", "consoles", "spare", "ro", "input", "resize", "size", "restore",
@@ -166,28 +170,25 @@ def place(window, offset):
     return f"{REGISTERS.get(offset, f'offset {offset:03x}')} of its {WINDOWS[window]} window"
 
 
-COUNTS = {"r": 5, "w": 6, "mr": 4, "mw": 4, "in": 3, "sz": 4, "st": 3, "io": 4, "drop": 2, "hold": 2, "release": 2,
-          "plug": 4, "dr": 5, "dw": 6, "supply": 4, "frame": 4, "take": 3, "dsent": 3, "link": 4, "dsz": 5, "dio": 5,
-          "ddrop": 3, "dhold": 3, "drelease": 3}
-# Of a plug of a disk.
-DISK_COUNT = 8
+# The words of events.
+EVENTS = READER["LINES"].keys() - {"cache", "slot"}
 
 
 def events_of(text):
     """The events of a trace's text, up to the first line that is none."""
     events = []
     for number, line in enumerate(text.split("\n"), 1):
-        fields = line.split(" ")
-        if fields[0] in COUNTS:
-            if len(fields) != (DISK_COUNT if plugs_disk(fields) else COUNTS[fields[0]]):
+        word, *fields = line.split(" ")
+        if word in EVENTS:
+            if len(fields) != len(READER["kinds_of"](word, fields, READER["EXTENDED"])):
                 break
-            events.append(Event(number, line, fields))
+            events.append(Event(number, line, [word, *fields]))
     return events
 
 
 def plugs_disk(fields):
-    """Whether a line's fields are those of a plug of a disk, whoever serves it: there are as many."""
-    return fields[0] == "plug" and fields[3:4] in (["disk"], ["image"])
+    """Whether a line's fields are those of a plug of a disk, whoever serves it."""
+    return READER["is_disk"](fields[0], fields[1:])
 
 
 def plugs_console(fields):
