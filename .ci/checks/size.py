@@ -40,7 +40,7 @@ OF_LONGER_PARAGRAPHS = {
 }
 
 # What a script makes from the suite's rows.
-MADE = "crates/conformance/data/MATRIX.md"
+MADE = [f"crates/conformance/data/{page}.md" for page in ("MATRIX", "matrix/README", "scenarios/README")]
 
 NO_TEXT = re.compile(r"^ *```.*?^ *```|^ *\|[^\n]*$|^#+ [^\n]*$|^<!--.*?-->", re.MULTILINE | re.DOTALL)
 BORDER = re.compile(r"\n\s*\n|\n(?= *(?:[-*]|\d+\.) )")
@@ -60,7 +60,8 @@ def paragraphs(text):
 def size():
     """No page is over its words, and no paragraph."""
     wrong, texts = [], {str(page.relative_to(TOP)): page.read_text(encoding="utf-8") for page in pages()}
-    texts.pop(MADE, None)
+    for name in MADE:
+        texts.pop(name, None)
     for name, text in texts.items():
         count, most = words(text), OF_LARGER_PAGES.get(name, OF_A_PAGE)
         if count > most:
