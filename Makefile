@@ -1,6 +1,6 @@
 # The commands of the README, the library, its installing and its packages, the measurements, tries from outside, the hosts of the
 # library, and the suite. The first sentence above a target is its line in make help.
-.PHONY: check unproved unproved-program unproved-fast unproved-fast-program run prove show vshow look-test look-picture show-check test help library install uninstall dist deb dist-check bench fuzz broken trouble stops embed linux linux-test linux-picture stress doors peer mutants matrix planted
+.PHONY: check unproved unproved-program unproved-fast unproved-fast-program run prove show vshow look-test look-picture show-check test help library install uninstall dist deb dist-check bench fuzz broken trouble stops embed linux linux-test linux-picture stress doors peer mutants matrix planted vhost-program
 
 TRACE ?= examples/two-guests.trace
 IMAGE ?=
@@ -91,6 +91,12 @@ install: packaging/out/libkalyubos.a
 packaging/out/libkalyubos.a: crates.txt crates/board_ffi/c_text/answer.c crates/board_ffi/c_text/fault_text.c examples/embed/heap.c packaging/archive \
 		$(shell find crates -name out -prune -o -name '*.rt' -print -o -name '*.h' -print)
 	@packaging/build
+
+# Builds vhost/out/kalyubos-vhost, which serves a disk to QEMU by vhost-user, over the library for C. It wants liburing-dev, libnbd-dev
+# and libseccomp-dev.
+vhost-program: $(if $(UNPROVED),,packaging/out/libkalyubos.a)
+	@$(if $(UNPROVED),packaging/unproved --fast board_ffi)
+	@$(MAKE) --no-print-directory -C vhost LIBRARY=$(CURDIR)/$(if $(UNPROVED),out/libkalyubos-unproved.a,packaging/out/libkalyubos.a)
 
 # Removes what make install installed.
 uninstall:

@@ -1,0 +1,213 @@
+/*
+ * mapping: reserves, maps, and handles the faults of the guest's memory. A fault in memory that was cut puts unshared memory over
+ * the whole region and returns. The call of the library that met it goes on, over bytes that are others than before, as any guest
+ * may write them; its thread then ends the front end.
+ */
+#include "mapping.h"
+
+#include <errno.h>
+#include <string.h>
+#include <sys/mman.h>
+#include <sys/stat.h>
+
+static const uint64_t HUGE_PAGE = (uint64_t)1 << 30; /* a mapping of huge pages is aligned as they are */
+
+static _Thread_local struct mapping *watched;
+
+/* ---- the log */
+
+const char *page_log_map(struct page_log *log, int file, uint64_t len, uint64_t offset)
+{
+    struct stat stat;
+    if (file < 0 || fstat(file, &stat) != 0 || !S_ISREG(stat.st_mode))
+        return "the log of pages isn't a regular file";
+    if (len == 0 || len > INT64_MAX || offset > INT64_MAX - len || offset % PAGE != 0)
+        return "the log of pages has no bytes, or no place in a file";
+    if ((uint64_t)stat.st_size < offset + len)
+        return "the log of pages passes the end of its file";
+    uint8_t *bits = mmap(NULL, len, PROT_READ | PROT_WRITE, MAP_SHARED, file, (off_t)offset);
+    if (bits == MAP_FAILED)
+        return strerror(errno);
+    page_log_unmap(log);
+    log->bits = bits;
+    log->len = len;
+    return NULL;
+}
+
+void page_log_unmap(struct page_log *log)
+{
+    if (log->bits != NULL)
+        munmap(log->bits, log->len);
+    *log = (struct page_log){ 0 };
+}
+
+/* ---- mapping */
+
+/* Joins regions that touch. */
+static const char *join(struct mapping *mapping)
+{
+    for (unsigned i = 0; i < mapping->memory.len; i++) {
+        const struct region *it = &mapping->memory.regions[i];
+        struct kalyubos_region *last = &mapping->regions[mapping->regions_len > 0 ? mapping->regions_len - 1 : 0];
+        if (mapping->regions_len > 0 && last->base + last->len == it->guest)
+            last->len += it->size;
+        else if (mapping->regions_len == KALYUBOS_REGIONS)
+            return "more than 8 regions of memory don't touch another";
+        else
+            mapping->regions[mapping->regions_len++] = (struct kalyubos_region){ it->guest, it->size };
+    }
+    return mapping->regions_len > 0 ? NULL : "there is no memory";
+}
+
+static uint8_t *reserve(uint64_t len, uint8_t **all)
+{
+    uint8_t *at = mmap(NULL, len, PROT_NONE, MAP_PRIVATE | MAP_ANONYMOUS | MAP_NORESERVE, -1, 0);
+    if (at == MAP_FAILED)
+        return NULL;
+    *all = at;
+    return at + (HUGE_PAGE - (uintptr_t)at % HUGE_PAGE) % HUGE_PAGE;
+}
+
+const char *mapping_open(struct mapping *mapping, const struct memory *memory, const struct page_log *log)
+{
+    memset(mapping, 0, sizeof *mapping);
+    mapping->memory = *memory;
+    mapping->log = log;
+    const char *why = join(mapping);
+    if (why != NULL)
+        return why;
+    if (log->is_on && memory_end(memory) / PAGE > log->len * 8)
+        return "the log of pages is too short for the memory";
+    mapping->len = memory_end(memory) + HUGE_PAGE;
+    mapping->base = mapping->data = reserve(mapping->len, &mapping->all);
+    if (mapping->base != NULL && log->is_on)
+        mapping->data = reserve(mapping->len, &mapping->data_all);
+    if (mapping->base == NULL || mapping->data == NULL || !mapping_scratch(mapping)) {
+        mapping_close(mapping);
+        return "there are no addresses for the guest's memory";
+    }
+    return NULL;
+}
+
+static bool cover(uint8_t *at, uint64_t len)
+{
+    return mmap(at, len, PROT_READ | PROT_WRITE, MAP_PRIVATE | MAP_ANONYMOUS | MAP_NORESERVE | MAP_FIXED, -1, 0) != MAP_FAILED;
+}
+
+bool mapping_scratch(struct mapping *mapping)
+{
+    bool is_done = true;
+    for (unsigned i = 0; i < mapping->regions_len; i++) {
+        const struct kalyubos_region *it = &mapping->regions[i];
+        is_done &= cover(mapping->base + it->base, it->len);
+        if (mapping->data != mapping->base)
+            is_done &= cover(mapping->data + it->base, it->len);
+    }
+    return is_done;
+}
+
+static bool map_files(uint8_t *base, const struct memory *memory, int protection)
+{
+    for (unsigned i = 0; i < memory->len; i++) {
+        const struct region *it = &memory->regions[i];
+        if (mmap(base + it->guest, it->size, protection, MAP_SHARED | MAP_NORESERVE | MAP_FIXED, it->file, (off_t)it->offset) == MAP_FAILED)
+            return false;
+    }
+    return true;
+}
+
+const char *mapping_guest(struct mapping *mapping)
+{
+    bool has_two = mapping->data != mapping->base;
+    if (map_files(mapping->base, &mapping->memory, has_two ? PROT_READ : PROT_READ | PROT_WRITE) &&
+        (!has_two || map_files(mapping->data, &mapping->memory, PROT_READ | PROT_WRITE)))
+        return NULL;
+    return "a region of memory can't be mapped";
+}
+
+void mapping_close(struct mapping *mapping)
+{
+    if (mapping->all != NULL)
+        munmap(mapping->all, mapping->len);
+    if (mapping->data_all != NULL)
+        munmap(mapping->data_all, mapping->len);
+    mapping->all = mapping->data_all = NULL;
+}
+
+/* ---- marks */
+
+void mapping_mark(const struct mapping *mapping, uint64_t guest, uint64_t len)
+{
+    if (!mapping->log->is_on || len == 0)
+        return;
+    for (uint64_t page = guest / PAGE; page <= (guest + len - 1) / PAGE; page++)
+        __atomic_fetch_or(&mapping->log->bits[page / 8], (uint8_t)(1 << page % 8), __ATOMIC_SEQ_CST);
+}
+
+void mapping_shut(struct mapping *mapping)
+{
+    while (mapping->opened_len > 0) {
+        uint64_t at = mapping->opened[--mapping->opened_len];
+        (void)mprotect(mapping->base + at, PAGE, PROT_READ);
+        mapping_mark(mapping, at, PAGE); /* behind what was written */
+    }
+}
+
+/* ---- faults */
+
+void mapping_watch(struct mapping *mapping)
+{
+    watched = mapping;
+}
+
+/* A store to a page that is logged: opens it. Where too many are open all are shut first, since each store is one step. */
+static bool open_page(struct mapping *mapping, uint64_t at)
+{
+    if (!mapping->log->is_on || at >= memory_end(&mapping->memory))
+        return false;
+    if (mapping->opened_len == OPENED)
+        mapping_shut(mapping);
+    at -= at % PAGE;
+    if (mprotect(mapping->base + at, PAGE, PROT_READ | PROT_WRITE) != 0)
+        return false;
+    mapping->opened[mapping->opened_len++] = at;
+    mapping->faults++;
+    return true;
+}
+
+/* An access behind the end of a file that was cut: puts unshared memory over the region, or over the log. */
+static bool cover_cut(struct mapping *mapping, uint8_t *address)
+{
+    mapping->is_cut = 1;
+    if (mapping->log->bits != NULL && address >= mapping->log->bits && address < mapping->log->bits + mapping->log->len)
+        return cover(mapping->log->bits, mapping->log->len);
+    for (unsigned i = 0; i < mapping->memory.len; i++) {
+        const struct region *it = &mapping->memory.regions[i];
+        uint8_t *at = mapping->base + it->guest, *data = mapping->data + it->guest;
+        if (address >= at && address < at + it->size)
+            return cover(at, it->size);
+        if (address >= data && address < data + it->size)
+            return cover(data, it->size);
+    }
+    return false;
+}
+
+static void handle_fault(int number, siginfo_t *info, void *context)
+{
+    int error = errno;
+    uint8_t *address = info->si_addr;
+    (void)context;
+    bool is_handled = watched != NULL && (number == SIGBUS ? cover_cut(watched, address)
+                                                           : open_page(watched, (uint64_t)(address - watched->base)));
+    if (!is_handled)
+        (void)signal(number, SIG_DFL); /* it comes again, and ends the program */
+    errno = error;
+}
+
+void mapping_handle_faults(void)
+{
+    struct sigaction action = { .sa_sigaction = handle_fault, .sa_flags = SA_SIGINFO | SA_NODEFER };
+    sigemptyset(&action.sa_mask);
+    sigaction(SIGSEGV, &action, NULL);
+    sigaction(SIGBUS, &action, NULL);
+}

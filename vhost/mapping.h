@@ -1,0 +1,61 @@
+/*
+ * mapping: a queue's own mapping of the guest's memory, the log of the pages that are written to, and what becomes of memory that
+ * the front end cuts.
+ */
+#ifndef MAPPING_H
+#define MAPPING_H
+
+#include <signal.h>
+#include <stdbool.h>
+#include <stdint.h>
+
+#include "kalyubos.h"
+#include "memory.h"
+
+/* The front end's log: bit p % 8 of byte p / 8 is set where page p is written to. `bits` is NULL where there is none. */
+struct page_log {
+    uint8_t *bits;
+    uint64_t len;
+    bool is_on;
+};
+
+/* Maps a log that lies in a file, which stays the caller's: NULL where it is done, else why not. */
+const char *page_log_map(struct page_log *log, int file, uint64_t len, uint64_t offset);
+void page_log_unmap(struct page_log *log);
+
+/*
+ * The byte of guest-physical address g lies at base + g. Regions that touch are one region, as the library asks. No other queue's
+ * words are the same, so each queue is a guest of the library for itself.
+ *
+ * The library doesn't tell which pages it writes to. While they are logged its mapping can't be written: a fault marks the page and
+ * opens it, until mapping_shut. The disk's bytes move through `data`, a second mapping, and mapping_mark marks their pages. The
+ * library's own call that has pages marked (as kalyubos_keep_pages has it for boards) would replace both.
+ */
+enum { OPENED = 64 };
+struct mapping {
+    uint8_t *all, *base, *data_all, *data;
+    struct memory memory; /* a copy, whose files aren't owned */
+    const struct page_log *log;
+    uint64_t opened[OPENED];
+    unsigned opened_len;
+    uint64_t len, faults;
+    volatile sig_atomic_t is_cut; /* the front end cut its memory or its log, and other memory lies there now */
+    unsigned regions_len;
+    struct kalyubos_region regions[KALYUBOS_REGIONS];
+};
+
+/* Reserves addresses for all regions, with memory in them that nobody shares. NULL where it is done, else why not. */
+const char *mapping_open(struct mapping *mapping, const struct memory *memory, const struct page_log *log);
+/* Puts unshared memory, and the guest's memory, in the place of what was there. */
+bool mapping_scratch(struct mapping *mapping);
+const char *mapping_guest(struct mapping *mapping);
+/* Marks the pages of these bytes; marks and shuts what a fault opened. */
+void mapping_mark(const struct mapping *mapping, uint64_t guest, uint64_t len);
+void mapping_shut(struct mapping *mapping);
+/* Has this thread's faults in the mapping handled. */
+void mapping_watch(struct mapping *mapping);
+void mapping_close(struct mapping *mapping);
+/* Installs the handlers of faults, once for the program. */
+void mapping_handle_faults(void);
+
+#endif

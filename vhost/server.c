@@ -1,0 +1,476 @@
+/* server: a queue's thread. It waits for kicks and results, has the library serve the queue, and tells the front end. */
+#include "server.h"
+
+#include <errno.h>
+#include <inttypes.h>
+#include <poll.h>
+#include <pthread.h>
+#include <semaphore.h>
+#include <stdlib.h>
+#include <string.h>
+#include <sys/eventfd.h>
+#include <sys/socket.h>
+#include <time.h>
+#include <unistd.h>
+
+#include "place.h"
+#include "say.h"
+#include "store.h"
+
+/* What a result of the ring is of, beside the store's. */
+enum { OF_KICK = 1000, OF_STOP };
+
+/* For how many milliseconds a cancelled transfer may take to end. */
+enum { CANCEL_TIME = 1000 };
+
+struct server {
+    struct origin origin;
+    struct layout layout;
+    uint32_t index, base;
+    int kick, call, error, stop;
+    struct mapping mapping;
+    struct window window;
+    struct ring ring;
+    struct store *store;
+    uint64_t begun, ended, failed;   /* sets of tags */
+    uint8_t order[KALYUBOS_TAGS];    /* tags as they began, from `first` on */
+    unsigned first, order_len;
+    bool is_due, is_lost, is_cancelled;
+    atomic_bool is_faulty;
+    atomic_int owners;               /* the thread, and who started it: the last one frees */
+    atomic_uint limit;               /* for how many milliseconds a stop waits */
+    uint64_t stopped_at;
+    sem_t is_done;                   /* `base` is told */
+    pthread_t thread;
+    uint64_t kicks, calls, operations, failures;
+    struct flight flights[KALYUBOS_TAGS];
+};
+
+static uint64_t microseconds(void)
+{
+    struct timespec time;
+    clock_gettime(CLOCK_MONOTONIC, &time);
+    return (uint64_t)time.tv_sec * 1000000 + (uint64_t)time.tv_nsec / 1000;
+}
+
+/* ---- operations */
+
+static void store_ended(void *user, struct flight *flight, int error)
+{
+    struct server *server = user;
+    uint64_t tag = (uint64_t)1 << flight->tag;
+    server->ended |= tag;
+    if (error == 0)
+        return;
+    server->failed |= tag;
+    if (server->failures++ == 0)
+        say(server->origin.name, "queue %u: an operation of %s failed: %s", server->index, server->origin.disk->path, strerror(error));
+}
+
+static void begin_one(struct server *server, unsigned tag)
+{
+    struct flight *flight = &server->flights[tag];
+    const struct kalyubos_operation *operation = &flight->operation;
+    (void)kalyubos_guest_operation(&server->window.guest, (uint8_t)tag, &flight->operation, flight->runs, KALYUBOS_RUNS);
+    server->begun |= (uint64_t)1 << tag;
+    server->order[(server->first + server->order_len++) % KALYUBOS_TAGS] = (uint8_t)tag;
+    flight->tag = tag;
+    flight->at = operation->start;
+    flight->left = operation->len;
+    flight->next = flight->sent = 0;
+    flight->syncs = flight->writes_zeros = flight->is_sent = flight->failed = false;
+    bool has_parts = operation->kind == KALYUBOS_IN || operation->kind == KALYUBOS_OUT;
+    for (uint32_t i = 0; has_parts && i < operation->runs; i++)
+        flight->parts[i] = (struct iovec){ server->mapping.data + flight->runs[i].at, flight->runs[i].len };
+    server->store->kind->begin(server->store, flight);
+}
+
+/*
+ * What follows each call of the library that serves the queue: begins what is in flight and wasn't begun. Within one call each
+ * operation takes the lowest tag that is free, so they begin in the order of their tags.
+ */
+static void settle(struct server *server, uint32_t answer)
+{
+    uint64_t tags = 0;
+    server->is_due = answer == KALYUBOS_MORE;
+    mapping_shut(&server->mapping);
+    (void)kalyubos_guest_in_flight(&server->window.guest, &tags);
+    for (uint64_t left = tags & ~server->begun; left != 0; left &= left - 1)
+        begin_one(server, (unsigned)__builtin_ctzll(left));
+}
+
+static void complete_one(struct server *server, unsigned tag)
+{
+    const struct flight *flight = &server->flights[tag];
+    uint64_t bit = (uint64_t)1 << tag;
+    bool failed = (server->failed & bit) != 0;
+    for (uint32_t i = 0; flight->operation.kind == KALYUBOS_IN && i < flight->operation.runs; i++)
+        mapping_mark(&server->mapping, flight->runs[i].at, flight->runs[i].len);
+    server->begun &= ~bit;
+    server->ended &= ~bit;
+    server->failed &= ~bit;
+    server->operations++;
+    settle(server, kalyubos_guest_completed(&server->window.guest, (uint8_t)tag, failed, &server->window.pending));
+}
+
+/* Takes out of the order the operation that is to be completed next: the oldest, or where that is allowed the first that has ended. */
+static bool take_ended(struct server *server, unsigned *tag)
+{
+    unsigned most = server->origin.disk->unordered ? server->order_len : server->order_len != 0;
+    for (unsigned place = 0; place < most; place++) {
+        *tag = server->order[(server->first + place) % KALYUBOS_TAGS];
+        if ((server->ended >> *tag & 1) == 0)
+            continue;
+        for (; place > 0; place--)
+            server->order[(server->first + place) % KALYUBOS_TAGS] = server->order[(server->first + place - 1) % KALYUBOS_TAGS];
+        server->first = (server->first + 1) % KALYUBOS_TAGS;
+        server->order_len--;
+        return true;
+    }
+    return false;
+}
+
+/*
+ * Completes what has ended. In order each waits for those that began before it: then the used idx says all, and a front end that goes
+ * on from there behind a crash loses none of them.
+ */
+static void complete_ended(struct server *server)
+{
+    for (unsigned tag; take_ended(server, &tag);)
+        complete_one(server, tag);
+}
+
+/* ---- what the front end is told */
+
+/* Ends the connection: the front end's thread then stops all of its queues. */
+static void let_go(struct server *server, const char *why)
+{
+    say(server->origin.name, "queue %u: %s: the front end is let go", server->index, why);
+    (void)shutdown(server->origin.connection, SHUT_RDWR);
+}
+
+static void tell_fault(struct server *server)
+{
+    struct kalyubos_fault fault = { 0 };
+    if (atomic_exchange(&server->is_faulty, true))
+        return;
+    (void)kalyubos_guest_last_fault(&server->window.guest, KALYUBOS_BLOCK, &fault);
+    say(server->origin.name, "queue %u stops until its driver resets it: %s", server->index, kalyubos_fault_text(fault.kind));
+    (void)eventfd_write(server->error, 1);
+}
+
+static void tell(struct server *server)
+{
+    uint32_t word = window_take_interrupt(&server->window);
+    mapping_shut(&server->mapping);
+    if ((word & NEEDS_RESET) != 0)
+        tell_fault(server);
+    if ((word & USED_BUFFER) != 0) {
+        (void)eventfd_write(server->call, 1); /* where the front end filled it, a signal of server_stop ends the wait */
+        server->calls++;
+    }
+    if (server->mapping.is_cut && !atomic_exchange(&server->is_faulty, true))
+        let_go(server, "the front end cut its memory or its log");
+}
+
+/* ---- the thread */
+
+/* The eventfd is never read: a result comes with each write to it, and one more of what was written before. */
+static void watch(struct server *server, int file, uint64_t what)
+{
+    io_uring_prep_poll_multishot(ring_next(&server->ring, what), file, POLLIN);
+}
+
+static void take_stop(struct server *server)
+{
+    server->stopped_at = microseconds();
+    uint32_t answer = kalyubos_guest_hold(&server->window.guest, &server->window.pending);
+    server->is_due = answer == KALYUBOS_MORE;
+}
+
+static void take_kick(struct server *server, const struct io_uring_cqe *result)
+{
+    server->kicks++;
+    if (result->res >= 0 && (result->flags & IORING_CQE_F_MORE) == 0)
+        watch(server, server->kick, OF_KICK);
+    else if (result->res < 0)
+        let_go(server, "its kicks can't be waited for");
+}
+
+static void take_results(struct server *server)
+{
+    struct io_uring_cqe result;
+    bool is_kicked = false;
+    while (ring_take(&server->ring, &result)) {
+        if (result.user_data == OF_KICK) {
+            take_kick(server, &result);
+            is_kicked = true;
+        } else if (result.user_data == OF_STOP) {
+            take_stop(server);
+        } else {
+            struct flight *flight = result.user_data < KALYUBOS_TAGS ? &server->flights[result.user_data] : NULL;
+            server->store->kind->result(server->store, flight, &result);
+        }
+    }
+    if (is_kicked)
+        settle(server, window_notify(&server->window));
+    else if (server->is_due)
+        settle(server, kalyubos_guest_go_on(&server->window.guest, &server->window.pending));
+}
+
+/* Looks again for a while before it sleeps. */
+static void spin(struct server *server)
+{
+    uint64_t until = microseconds() + server->origin.disk->spin;
+    do
+        ring_wait(&server->ring, 0);
+    while (!ring_has(&server->ring) && microseconds() < until);
+}
+
+/* Waits for the next result, for so many milliseconds at most; behind a stop no longer than until its limit is looked at again. */
+static void wait_for_results(struct server *server, int most)
+{
+    enum { LOOK = 50 };
+    if (server->is_due)
+        most = 0;
+    else if (server->stopped_at != 0 && (most < 0 || most > LOOK))
+        most = LOOK;
+    if (server->origin.disk->spin != 0 && most != 0)
+        spin(server);
+    ring_wait(&server->ring, most);
+}
+
+/* Whether a stop is at its end: nothing is in flight, or what is can't be ended. */
+static bool has_stopped(struct server *server)
+{
+    if (server->stopped_at == 0)
+        return false;
+    if (server->begun == 0)
+        return true;
+    uint64_t waited = (microseconds() - server->stopped_at) / 1000, limit = atomic_load(&server->limit);
+    if (waited >= limit && !server->is_cancelled) {
+        server->is_cancelled = true;
+        say(server->origin.name, "queue %u: %d transfers don't end: they are cancelled", server->index, __builtin_popcountll(server->begun));
+        server->store->kind->cancel(server->store);
+    }
+    server->is_lost = waited >= limit + CANCEL_TIME;
+    return server->is_lost;
+}
+
+/* Waits for transfers that were given up. Those that end late find unshared memory, but for what the kernel holds itself (O_DIRECT). */
+static void wait_for_lost(struct server *server)
+{
+    struct io_uring_cqe result;
+    struct disk *disk = server->origin.disk;
+    unsigned lost = (unsigned)__builtin_popcountll(server->begun & ~server->ended);
+    atomic_fetch_add(&disk->lost, lost);
+    (void)mapping_scratch(&server->mapping);
+    say(server->origin.name, "queue %u: %u transfers are given up: no queue starts until they have ended", server->index, lost);
+    (void)sem_post(&server->is_done);
+    while ((server->begun & ~server->ended) != 0) {
+        ring_wait(&server->ring, -1);
+        while (ring_take(&server->ring, &result))
+            if (result.user_data < KALYUBOS_TAGS)
+                server->ended |= (uint64_t)1 << result.user_data;
+    }
+    atomic_fetch_sub(&disk->lost, lost);
+}
+
+static void end(struct server *server)
+{
+    if (atomic_fetch_sub(&server->owners, 1) != 1)
+        return;
+    close(server->stop);
+    (void)sem_destroy(&server->is_done);
+    free(server);
+}
+
+static bool open_store(struct server *server)
+{
+    struct disk *disk = server->origin.disk;
+    int error = ring_open(&server->ring);
+    server->store = error == 0 ? disk->kind->open() : NULL;
+    if (server->store == NULL) {
+        if (error == 0)
+            ring_close(&server->ring);
+        let_go(server, error != 0 ? strerror(error) : "there is no memory");
+        return false;
+    }
+    server->store->kind = disk->kind;
+    server->store->disk = disk;
+    server->store->ring = &server->ring;
+    server->store->ended = store_ended;
+    server->store->user = server;
+    return true;
+}
+
+static void serve(struct server *server)
+{
+    watch(server, server->kick, OF_KICK);
+    watch(server, server->stop, OF_STOP);
+    settle(server, window_notify(&server->window)); /* what was on offer before it started */
+    for (;;) {
+        int most = server->store->kind->turn(server->store);
+        complete_ended(server);
+        tell(server);
+        if (has_stopped(server))
+            return;
+        wait_for_results(server, most);
+        take_results(server);
+    }
+}
+
+static void *run(void *user)
+{
+    struct server *server = user;
+    mapping_watch(&server->mapping);
+    bool is_open = open_store(server);
+    if (is_open)
+        serve(server);
+    if (server->is_lost) {
+        server->base = server->layout.is_packed ? server->base : place_of_used(&server->mapping, &server->layout);
+        wait_for_lost(server);
+    } else {
+        server->base = place_tell(&server->window, &server->mapping, &server->layout);
+        (void)sem_post(&server->is_done);
+    }
+    if (is_open) {
+        server->store->kind->close(server->store);
+        ring_close(&server->ring);
+    }
+    window_end(&server->window);
+    mapping_watch(NULL);
+    mapping_close(&server->mapping);
+    end(server);
+    return NULL;
+}
+
+/* ---- starting and stopping, on the front end's thread */
+
+static const char *lay_out(struct server *server, const struct queue *queue)
+{
+    const struct memory *memory = server->origin.memory;
+    struct layout *layout = &server->layout;
+    bool is_packed = (server->origin.features & FEATURE_RING_PACKED) != 0;
+    uint64_t num = queue->num, table = num * 16, event = 4, driver = is_packed ? event : 6 + 2 * num, device = is_packed ? event : 6 + 8 * num;
+    layout->num = queue->num;
+    layout->is_packed = is_packed;
+    if (!memory_find(memory, queue->desc, table, &layout->desc) || !memory_find(memory, queue->avail, driver, &layout->driver) ||
+        !memory_find(memory, queue->used, device, &layout->device))
+        return "a ring lies in no region of memory";
+    if (layout->desc % 16 != 0 || layout->driver % (is_packed ? 4 : 2) != 0 || layout->device % 4 != 0)
+        return "a ring isn't aligned";
+    return NULL;
+}
+
+/* A guest of the library at the queue's place, over the guest's memory. */
+static const char *prepare(struct server *server, const struct queue *queue)
+{
+    const struct origin *origin = &server->origin;
+    const char *why = lay_out(server, queue);
+    if (why != NULL)
+        return why;
+    if ((why = mapping_open(&server->mapping, origin->memory, origin->log)) != NULL)
+        return why;
+    if ((why = window_make(&server->window, origin->disk, &server->mapping)) == NULL) {
+        why = window_drive(&server->window, origin->features, &server->layout);
+        if (why == NULL) {
+            place_set(&server->window, &server->mapping, &server->layout, queue->base);
+            why = mapping_guest(&server->mapping);
+        }
+        if (why != NULL)
+            window_end(&server->window);
+    }
+    if (why != NULL)
+        mapping_close(&server->mapping);
+    return why;
+}
+
+static const char *judge(const struct queue *queue, const struct origin *origin)
+{
+    bool is_packed = (origin->features & FEATURE_RING_PACKED) != 0;
+    if ((origin->features & FEATURE_VERSION_1) == 0)
+        return "its driver is a legacy one: it doesn't take VIRTIO_F_VERSION_1";
+    if (!is_packed && (queue->num & (queue->num - 1)) != 0)
+        return "a split queue's size isn't a power of two";
+    if (is_packed ? (queue->base & 0x7fff) >= queue->num : queue->base > 0xffff)
+        return "a queue's base isn't one of its places";
+    if (atomic_load(&origin->disk->lost) != 0)
+        return "transfers that were given up haven't ended";
+    return NULL;
+}
+
+const char *server_start(struct queue *queue, const struct origin *origin)
+{
+    const char *why = judge(queue, origin);
+    struct server *server = why == NULL ? calloc(1, sizeof *server) : NULL;
+    if (server == NULL)
+        return why != NULL ? why : "there is no memory";
+    server->origin = *origin;
+    server->index = queue->index;
+    server->base = queue->base;
+    server->kick = queue->kick;
+    server->call = queue->call;
+    server->error = queue->error;
+    atomic_init(&server->owners, 2);
+    (void)sem_init(&server->is_done, 0, 0);
+    server->stop = eventfd(0, EFD_CLOEXEC);
+    why = server->stop < 0 ? "there is no eventfd" : prepare(server, queue);
+    if (why == NULL && pthread_create(&server->thread, NULL, run, server) != 0) {
+        window_end(&server->window);
+        mapping_close(&server->mapping);
+        why = "there is no thread";
+    }
+    if (why != NULL) {
+        atomic_store(&server->owners, 1);
+        end(server);
+        return why;
+    }
+    queue->server = server;
+    if (origin->disk->verbose)
+        say(origin->name, "queue %u of %u entries starts at %#x", queue->index, queue->num, queue->base);
+    return NULL;
+}
+
+/* Waits until the thread has told the queue's place. Signals bring it out of a write to an eventfd that the front end has filled. */
+static void wait_until_done(struct server *server)
+{
+    enum { STEP = 100000000 };
+    for (;;) {
+        struct timespec until;
+        clock_gettime(CLOCK_REALTIME, &until);
+        until.tv_nsec += STEP;
+        until.tv_sec += until.tv_nsec / 1000000000;
+        until.tv_nsec %= 1000000000;
+        if (sem_timedwait(&server->is_done, &until) == 0)
+            return;
+        if (errno == ETIMEDOUT)
+            (void)pthread_kill(server->thread, SIGUSR1);
+    }
+}
+
+void server_stop(struct queue *queue, unsigned seconds)
+{
+    struct server *server = queue->server;
+    if (server == NULL)
+        return;
+    atomic_store(&server->limit, seconds * 1000);
+    (void)eventfd_write(server->stop, 1);
+    wait_until_done(server);
+    queue->base = server->base;
+    queue->server = NULL;
+    if (server->origin.disk->verbose)
+        say(server->origin.name, "queue %u stops at %#x: %" PRIu64 " kicks, %" PRIu64 " operations, %" PRIu64 " of them failed, %" PRIu64
+            " calls, %" PRIu64 " enters, %" PRIu64 " pages opened", queue->index, queue->base, server->kicks, server->operations,
+            server->failures, server->calls, server->ring.enters, server->mapping.faults);
+    if (server->is_lost)
+        (void)pthread_detach(server->thread);
+    else
+        (void)pthread_join(server->thread, NULL);
+    end(server);
+}
+
+bool server_is_faulty(const struct server *server)
+{
+    return atomic_load(&server->is_faulty);
+}
