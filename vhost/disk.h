@@ -15,6 +15,7 @@ struct disk {
     uint64_t sectors;
     uint8_t identity[20];
     uint32_t depth, queues;
+    unsigned connections; /* how many queues of all sockets may serve it at once */
     unsigned spin;  /* for how many microseconds a queue looks again before it sleeps */
     unsigned drain; /* for how many seconds a stop waits for transfers */
     bool read_only, direct, packed, unordered, verbose;

@@ -163,10 +163,11 @@ static bool take(struct options *options, int option)
 }
 
 /* Whether the options fit each other. */
-static bool fit(const struct options *options)
+static bool fit(struct options *options)
 {
-    const struct disk *disk = options->disk;
+    struct disk *disk = options->disk;
     const char *why = NULL;
+    disk->connections = disk->queues * (options->paths_len > 1 ? options->paths_len : 1);
     if (disk->path == NULL)
         why = "there is no disk: give --blk-file PATH or --nbd URI (--help has examples)";
     else if (options->paths_len == 0 && options->file < 0)

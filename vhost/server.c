@@ -78,7 +78,7 @@ static void begin_one(struct server *server, unsigned tag)
     flight->at = operation->start;
     flight->left = operation->len;
     flight->next = flight->sent = 0;
-    flight->syncs = flight->writes_zeros = flight->is_sent = flight->failed = false;
+    flight->syncs = flight->writes_zeros = flight->is_begun = flight->failed = false;
     bool has_parts = operation->kind == KALYUBOS_IN || operation->kind == KALYUBOS_OUT;
     for (uint32_t i = 0; has_parts && i < operation->runs; i++)
         flight->parts[i] = (struct iovec){ server->mapping.data + flight->runs[i].at, flight->runs[i].len };

@@ -23,7 +23,7 @@ struct flight {
     bool syncs;           /* all is written, and is brought to the medium */
     bool writes_zeros;    /* zeros are written, where the store can't make them */
     unsigned sent;        /* of NBD: how many commands wait for a reply */
-    bool is_sent, failed; /* of NBD: all commands are sent; one failed */
+    bool is_begun, failed; /* of NBD: one was sent, and one failed */
 };
 
 struct store {
