@@ -23,7 +23,7 @@ const char *front_end_make(struct front_end *front_end, const char *name, struct
     front_end->listener = listener;
     front_end->socket = socket;
     front_end->ending = ending;
-    for (unsigned i = 0; i < QUEUES; i++) {
+    for (unsigned i = 0; i < disk->queues; i++) {
         struct queue *queue = &front_end->queues[i];
         queue->index = i;
         queue->kick = -1;
@@ -39,17 +39,18 @@ static void serve_connection(struct front_end *front_end)
 {
     struct message message;
     struct timeval patience = { .tv_sec = PATIENCE };
-    const char *why;
+    const char *why, *name;
     (void)setsockopt(front_end->socket, SOL_SOCKET, SO_RCVTIMEO, &patience, sizeof patience);
     (void)setsockopt(front_end->socket, SOL_SOCKET, SO_SNDTIMEO, &patience, sizeof patience);
     do {
         why = wire_receive(front_end->socket, front_end->ending, &message);
+        name = why == NULL ? protocol_name(message.request) : "receiving";
         if (why == NULL)
             why = protocol_handle(front_end, &message);
         wire_close_files(&message);
     } while (why == NULL);
     if (why != WIRE_END && why != WIRE_OVER)
-        say(front_end->name, "%s%s%s: the front end is let go", protocol_name(message.request), message.request != 0 ? ": " : "", why);
+        say(front_end->name, "the front end is let go: %s: %s", name, why);
     protocol_forget(front_end, why == WIRE_OVER);
     close(front_end->socket);
     front_end->socket = -1;

@@ -468,7 +468,7 @@ static const struct rule *rule_of(uint32_t request)
 const char *protocol_name(uint32_t request)
 {
     const struct rule *rule = rule_of(request);
-    return rule != NULL ? rule->name : request != 0 ? "a request without a name" : "";
+    return rule != NULL ? rule->name : "a request without a name";
 }
 
 static const char *judge_message(const struct front_end *front_end, const struct rule *rule, const struct message *message)

@@ -10,7 +10,7 @@ const char *protocol_offer(struct front_end *front_end);
 const char *protocol_handle(struct front_end *front_end, struct message *message);
 /* Stops all queues and forgets all that was said. Where the program ends, a stop waits no longer than seconds. */
 void protocol_forget(struct front_end *front_end, bool is_ending);
-/* The name of a request, as the specification has it, or "". */
+/* The name of a request, as the specification has it, for people. */
 const char *protocol_name(uint32_t request);
 
 #endif

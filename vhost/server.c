@@ -35,7 +35,7 @@ struct server {
     uint64_t begun, ended, failed;   /* sets of tags */
     uint8_t order[KALYUBOS_TAGS];    /* tags as they began, from `first` on */
     unsigned first, order_len;
-    bool is_due, is_lost, is_cancelled;
+    bool is_due, is_lost, is_cancelled, is_let_go;
     atomic_bool is_faulty;
     atomic_int owners;               /* the thread, and who started it: the last one frees */
     atomic_uint limit;               /* for how many milliseconds a stop waits */
@@ -142,10 +142,15 @@ static void complete_ended(struct server *server)
 
 /* ---- what the front end is told */
 
+static const char CUT[] = "it cut its memory or its log of pages";
+
 /* Ends the connection: the front end's thread then stops all of its queues. */
 static void let_go(struct server *server, const char *why)
 {
-    say(server->origin.name, "queue %u: %s: the front end is let go", server->index, why);
+    if (server->is_let_go)
+        return;
+    server->is_let_go = true;
+    say(server->origin.name, "the front end is let go: queue %u: %s", server->index, why);
     (void)shutdown(server->origin.connection, SHUT_RDWR);
 }
 
@@ -163,14 +168,14 @@ static void tell(struct server *server)
 {
     uint32_t word = window_take_interrupt(&server->window);
     mapping_shut(&server->mapping);
-    if ((word & NEEDS_RESET) != 0)
+    if (server->mapping.is_cut)
+        let_go(server, CUT);
+    else if ((word & NEEDS_RESET) != 0)
         tell_fault(server);
     if ((word & USED_BUFFER) != 0) {
         (void)eventfd_write(server->call, 1); /* where the front end filled it, a signal of server_stop ends the wait */
         server->calls++;
     }
-    if (server->mapping.is_cut && !atomic_exchange(&server->is_faulty, true))
-        let_go(server, "the front end cut its memory or its log");
 }
 
 /* ---- the thread */
@@ -332,6 +337,8 @@ static void *run(void *user)
         wait_for_lost(server);
     } else {
         server->base = place_tell(&server->window, &server->mapping, &server->layout);
+        if (server->mapping.is_cut)
+            let_go(server, CUT);
         (void)sem_post(&server->is_done);
     }
     if (is_open) {
