@@ -26,8 +26,6 @@ enum { ACKNOWLEDGE = 1, DRIVER = 2, DRIVER_OK = 4, FEATURES_OK = 8 };
 
 /* A notification by an eventfd carries no data. */
 #define FEATURE_NOTIFICATION_DATA ((uint64_t)1 << 38)
-/* There is no message by which a front end could reset one queue. */
-#define FEATURE_RING_RESET ((uint64_t)1 << 40)
 
 static uint32_t load(const struct window *window, uint16_t offset, uint8_t width)
 {
@@ -76,7 +74,7 @@ static uint64_t offered(struct window *window)
         (void)store(window, DEVICE_FEATURES_SEL, half);
         features |= (uint64_t)load(window, DEVICE_FEATURES, 4) << 32 * half;
     }
-    return features & ~(FEATURE_NOTIFICATION_DATA | FEATURE_RING_RESET);
+    return features & ~FEATURE_NOTIFICATION_DATA;
 }
 
 const char *window_shows(const struct disk *disk, uint64_t *features, uint8_t config[CONFIG_LEN], uint32_t *most)
