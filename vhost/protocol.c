@@ -89,6 +89,7 @@ static void forget_kick(struct queue *queue)
     queue->kick = -1;
 }
 
+/* A queue's place stays until it is set: QEMU 7.2 asks for it behind a status of 0. */
 static void reset_queues(struct front_end *front_end)
 {
     stop_all(front_end);
@@ -96,7 +97,7 @@ static void reset_queues(struct front_end *front_end)
         struct queue *queue = &front_end->queues[i];
         forget_kick(queue);
         queue->has_addresses = queue->is_enabled = false;
-        queue->num = queue->base = 0;
+        queue->num = 0;
     }
 }
 
@@ -507,6 +508,7 @@ void protocol_forget(struct front_end *front_end, bool is_ending)
     for (unsigned i = 0; i < front_end->disk->queues; i++) {
         (void)put_event(front_end->queues[i].call, -1);
         (void)put_event(front_end->queues[i].error, -1);
+        front_end->queues[i].base = 0;
     }
     memory_clear(&front_end->memory);
     page_log_unmap(&front_end->log);

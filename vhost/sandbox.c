@@ -56,7 +56,8 @@ static int filter_calls(bool is_nbd)
     if (error == 0 && is_nbd)
         error = allow(filter, FOR_NBD, sizeof FOR_NBD / sizeof FOR_NBD[0]);
     if (error == 0)
-        error = is_nbd ? seccomp_rule_add(filter, SCMP_ACT_ALLOW, SCMP_SYS(openat), 1, SCMP_A2(SCMP_CMP_MASKED_EQ, O_ACCMODE | O_CREAT, O_RDONLY))
+        error = is_nbd ? seccomp_rule_add(filter, SCMP_ACT_ALLOW, SCMP_SYS(openat), 1,
+                                          SCMP_A2(SCMP_CMP_MASKED_EQ, O_ACCMODE | O_CREAT, O_RDONLY))
                        : seccomp_rule_add(filter, SCMP_ACT_ERRNO(EACCES), SCMP_SYS(openat), 0);
     if (error == 0)
         error = seccomp_load(filter);

@@ -255,7 +255,8 @@ static bool has_stopped(struct server *server)
     uint64_t waited = (microseconds() - server->stopped_at) / 1000, limit = atomic_load(&server->limit);
     if (waited >= limit && !server->is_cancelled) {
         server->is_cancelled = true;
-        say(server->origin.name, "queue %u: %d transfers don't end: they are cancelled", server->index, __builtin_popcountll(server->begun));
+        say(server->origin.name, "queue %u: %d transfers don't end: they are cancelled", server->index,
+            __builtin_popcountll(server->begun));
         server->store->kind->cancel(server->store);
     }
     server->is_lost = waited >= limit + CANCEL_TIME;
@@ -359,7 +360,8 @@ static const char *lay_out(struct server *server, const struct queue *queue)
     const struct memory *memory = server->origin.memory;
     struct layout *layout = &server->layout;
     bool is_packed = (server->origin.features & FEATURE_RING_PACKED) != 0;
-    uint64_t num = queue->num, table = num * 16, event = 4, driver = is_packed ? event : 6 + 2 * num, device = is_packed ? event : 6 + 8 * num;
+    uint64_t num = queue->num, table = 16 * num; /* bytes of each part (2.7, 2.8) */
+    uint64_t driver = is_packed ? 4 : 6 + 2 * num, device = is_packed ? 4 : 6 + 8 * num;
     layout->num = queue->num;
     layout->is_packed = is_packed;
     if (!memory_find(memory, queue->desc, table, &layout->desc) || !memory_find(memory, queue->avail, driver, &layout->driver) ||

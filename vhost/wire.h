@@ -75,7 +75,10 @@ struct message {
     unsigned files_len;
 };
 
-/* Waits for a message. NULL once it is whole; else why there is none: WIRE_END where the front end has gone, WIRE_OVER where the program ends. */
+/*
+ * Waits for a message. NULL once it is whole; else why there is none: WIRE_END where the front end has gone, WIRE_OVER where the
+ * program ends.
+ */
 extern const char WIRE_END[], WIRE_OVER[];
 const char *wire_receive(int socket, int ending, struct message *message);
 /* Sends a message back with a payload of `size` bytes. */
