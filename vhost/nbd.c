@@ -59,6 +59,8 @@ static bool nbd_look(struct disk *disk)
     struct nbd_handle *handle = nbd_create();
     bool is_connected = handle != NULL && nbd_connect_uri(handle, disk->path) == 0;
     const char *why = is_connected ? judge(disk, handle) : nbd_get_error();
+    if (!is_connected && why == NULL)
+        why = "there is no connection";
     if (why != NULL)
         say(disk->path, "%s", why);
     else

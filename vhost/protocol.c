@@ -89,7 +89,7 @@ static void forget_kick(struct queue *queue)
     queue->kick = -1;
 }
 
-/* A queue's place stays until it is set: QEMU 7.2 asks for it behind a status of 0. */
+/* Stops all queues; each keeps its place, which a front end asks for behind a status of 0. */
 static void reset_queues(struct front_end *front_end)
 {
     stop_all(front_end);
