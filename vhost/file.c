@@ -8,6 +8,7 @@
 #include <sys/file.h>
 #include <sys/ioctl.h>
 #include <sys/stat.h>
+#include <time.h>
 #include <unistd.h>
 
 #include "say.h"
@@ -17,11 +18,18 @@ enum { SECTOR = 512, CANCELS = STORE_RESULTS };
 
 /* ---- opening */
 
-/* Nobody else has a disk that is written to; who only reads may share it. */
+/*
+ * Nobody else has a disk that is written to; who only reads may share it. The kernel holds the files of a killed program until its
+ * operations have ended, so a lock is tried again for some seconds.
+ */
 static bool lock(const struct disk *disk, int way)
 {
-    if (flock(disk->buffered, way | LOCK_NB) == 0)
-        return true;
+    const struct timespec pause = { .tv_nsec = 20000000 };
+    for (unsigned tries = 0; tries < 150; tries++) {
+        if (flock(disk->buffered, way | LOCK_NB) == 0)
+            return true;
+        (void)nanosleep(&pause, NULL);
+    }
     say(disk->path, "another program has it");
     return false;
 }
