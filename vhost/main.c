@@ -7,6 +7,7 @@
  * of a connected socket.
  */
 #include <errno.h>
+#include <fcntl.h>
 #include <pthread.h>
 #include <signal.h>
 #include <stdio.h>
@@ -83,8 +84,10 @@ static bool add_front_ends(int ending)
     if (options.file < 0)
         return true;
     snprintf(name, sizeof name, "--fd %d", options.file);
-    (void)fcntl(options.file, F_SETFD, FD_CLOEXEC);
     (void)getsockopt(options.file, SOL_SOCKET, SO_ACCEPTCONN, &listens, &len);
+    int flags = fcntl(options.file, F_GETFL) & ~O_NONBLOCK; /* as of a socket that is made here */
+    (void)fcntl(options.file, F_SETFL, flags | (listens != 0 ? O_NONBLOCK : 0));
+    (void)fcntl(options.file, F_SETFD, FD_CLOEXEC);
     return add_front_end(name, listens != 0 ? options.file : -1, listens != 0 ? -1 : options.file, ending);
 }
 
