@@ -132,12 +132,14 @@ static bool take_ended(struct server *server, unsigned *tag)
 
 /*
  * Completes what has ended. In order each waits for those that began before it: then the used idx says all, and a front end that goes
- * on from there behind a crash loses none of them.
+ * on from there behind a crash loses none of them. Whether any was completed, with which others may have begun.
  */
-static void complete_ended(struct server *server)
+static bool complete_ended(struct server *server)
 {
-    for (unsigned tag; take_ended(server, &tag);)
+    bool is_any = false;
+    for (unsigned tag; take_ended(server, &tag); is_any = true)
         complete_one(server, tag);
+    return is_any;
 }
 
 /* ---- what the front end is told */
@@ -317,7 +319,8 @@ static void serve(struct server *server)
     settle(server, window_notify(&server->window)); /* what was on offer before it started */
     for (;;) {
         int most = server->store->kind->turn(server->store);
-        complete_ended(server);
+        while (complete_ended(server))
+            most = server->store->kind->turn(server->store);
         tell(server);
         if (has_stopped(server))
             return;
