@@ -1,0 +1,204 @@
+"""Memory that changes while a queue runs, memory that is cut, and the log of pages that are written to."""
+import os
+import struct
+import time
+
+import disks
+from front_end import PAGE, Ended, Feature, Memory, Refused, Region, Request, WANTED
+from program import options_of, over, same
+from queues import KINDS, Silent
+
+BASE, SIZE, FAR = 0x80000000, 4 << 20, 0x100000000
+
+
+def read_into(front, address):
+    """Has sector 9 read to an address, and returns what its chain's used length is."""
+    room = front.disk.room(40)
+    front.memory.write(room, struct.pack("=IIQ", disks.IN, 0, 9))
+    front.queue.offer([(room, 16, 0), (address, 512, 2), (room + 32, 1, 2)])
+    return [length for _, length in front.queue.wait()]
+
+
+@over(*((kind,) for kind in KINDS))
+def test_a_region_comes_and_goes(make, kind):
+    with make(*options_of(kind)) as program:
+        with program.machine(kind, memory=Memory(Region(BASE, SIZE))) as front:
+            for turn in range(3):
+                region = Region(FAR + turn * SIZE, SIZE)
+                front.memory.regions.append(region)
+                front.add_region(region)
+                same(read_into(front, region.guest + SIZE - 512), [513], "the used length")
+                same(front.memory.read(region.guest + SIZE - 512, 512), program.bytes(9), "sector 9 in the new region")
+            front.remove_region(front.memory.regions.pop(2))
+            same(read_into(front, FAR + 2 * SIZE), [513], "the used length in a region that stays")
+            front.queue.offer([(front.disk.room(40), 16, 0), (FAR + SIZE, 512, 2), (front.disk.room(40) + 32, 1, 2)])
+            same(front.queue.has_failed(), True, "whether a buffer in the region that went is an error")
+        program.must_serve(kind)
+
+
+@over(*((kind,) for kind in KINDS))
+def test_a_region_comes_under_load(make, kind):
+    """Requests that are in flight while the table changes are each done once."""
+    with make(*options_of(kind)) as program, program.machine(kind, memory=Memory(Region(BASE, 16 << 20)), most=4096) as front:
+        for turn in range(20):
+            names = [front.disk.submit(disks.IN, sector, wanted=4096) for sector in range(0, 32 * 8, 8)]
+            region = Region(FAR, SIZE)
+            front.add_region(region)
+            for sector, name in zip(range(0, 32 * 8, 8), names):
+                same(front.disk.result(name).data, program.bytes(sector, 8), f"sector {sector} in turn {turn}")
+            front.remove_region(region)
+
+
+@over(*((kind,) for kind in KINDS))
+def test_a_table_anew(make, kind):
+    """The same addresses in other files, as after a guest's memory was laid anew."""
+    with make(*options_of(kind)) as program, program.machine(kind, memory=Memory(Region(BASE, SIZE))) as front:
+        for turn in range(3):
+            old, new = front.memory.regions[0], Region(BASE, SIZE, user=0x600000000000 + turn * SIZE, offset=turn * PAGE)
+            same(front.disk.do(disks.IN, turn, wanted=512).data, program.bytes(turn), f"sector {turn}")
+            front.stop()
+            new.map[new.offset:] = old.map[old.offset:]
+            front.memory.regions[0] = new
+            front.set_memory(front.memory)
+            front.start(front.queue)
+            was = old.map[:]
+            same(front.disk.do(disks.IN, turn + 8, wanted=512).data, program.bytes(turn + 8), f"sector {turn + 8}")
+            same(old.map[:] == was, True, "whether the old memory is as it was")
+
+
+CUTS = {"all": 0, "data": 0x10000, "half": SIZE // 2}
+
+
+@over(*((kind, what, options) for kind in KINDS for what in CUTS for options in ((), ("--direct",))))
+def test_memory_that_is_cut(make, kind, what, options):
+    """A front end that cuts its memory's file while requests run ends at most itself."""
+    with make(*options_of(kind), *options) as program:
+        with program.machine(kind, memory=Memory(Region(BASE, SIZE)), most=4096) as front:
+            for sector in range(24):
+                front.disk.submit(disks.IN, sector, wanted=4096, notify=sector == 12)
+            os.ftruncate(front.memory.regions[0].file, CUTS[what])
+            front.queue.notify()
+            time.sleep(0.05)
+            program.must_live()
+            try:
+                front.stop()
+            except (Ended, Refused, TimeoutError):
+                pass
+        program.must_serve(kind)
+
+
+def test_memory_that_was_cut_before(make):
+    """A table of a file that is shorter than it says."""
+    with make() as program:
+        try:
+            region = Region(FAR, SIZE)
+            os.ftruncate(region.file, PAGE)
+            with program.machine(memory=Memory(Region(BASE, SIZE))) as front:
+                front.add_region(region)
+                front.queue.offer([(FAR + SIZE - 16, 16, 0), (front.disk.room(1), 513, 2)])
+                front.queue.has_failed(0.2)
+        except (Ended, Refused):
+            pass
+        program.must_serve()
+
+
+# --- the log
+
+def changed(before, after):
+    """Pages that differ, by their numbers."""
+    return {(guest + at) // PAGE for guest in after for at in range(0, len(after[guest]), PAGE)
+            if before[guest][at:at + PAGE] != after[guest][at:at + PAGE]}
+
+
+class Log:
+    """A log of pages, up to the end of all regions."""
+
+    def __init__(self, memory):
+        last = max(region.guest + region.size for region in memory.regions)
+        self.size = (last // PAGE + 63) // 64 * 8
+        self.file = os.memfd_create("log")
+        os.ftruncate(self.file, self.size)
+
+    def marked(self):
+        content = os.pread(self.file, self.size, 0)
+        return {8 * at + bit for at, byte in enumerate(content) if byte for bit in range(8) if byte >> bit & 1}
+
+    def clear(self):
+        os.ftruncate(self.file, 0)
+        os.ftruncate(self.file, self.size)
+
+
+def begin_log(front, log):
+    """Switches the log on as a machine does that moves."""
+    front.set_log(log.file, log.size)
+    front.set_features([*wanted_of(front), Feature.LOG_ALL])
+    front.queue.log = 1
+    user, queue = front.memory.user, front.queue
+    areas = [user(queue.descriptors), user(queue.device), user(queue.driver)]
+    front.tell(Request.SET_VRING_ADDR, struct.pack("=IIQQQQ", 0, 1, *areas, queue.device))
+
+
+def wanted_of(front):
+    return [bit for bit in range(64) if front.features >> bit & 1]
+
+
+@over(*((kind, indirect, options) for kind in KINDS for indirect in (False, True) for options in ((), ("--direct",))))
+def test_pages_that_are_written_are_marked(make, kind, indirect, options):
+    with make(*options_of(kind), *options) as program:
+        memory = Memory(Region(BASE, SIZE), Region(FAR, SIZE))
+        with program.machine(kind, memory=memory, indirect=indirect) as front:
+            same(front.offered >> Feature.LOG_ALL & 1, 1, "whether LOG_ALL is offered")
+            front.disk.do(disks.IN, 1, wanted=512)
+            log = Log(memory)
+            begin_log(front, log)
+            for sector, count, at in ((0, 1, 0), (16, 64, 3), (2, 128, 100)):
+                name = front.disk.submit(disks.IN, sector, wanted=count * 512, shift=at, notify=False)
+                before = memory.all()
+                front.queue.notify()
+                same(front.disk.result(name).data, program.bytes(sector, count), f"sector {sector}")
+                written = {page for page in changed(before, memory.all()) if page not in own_pages(front)}
+                same(written - log.marked(), set(), "pages that were written and aren't marked")
+            same(read_into(front, FAR + SIZE - 512), [513], "the used length")
+            same((FAR + SIZE - 512) // PAGE in log.marked(), True, "whether the last page is marked")
+            same(sorted(page for page in log.marked() if page not in may_be_written(front)), [], "pages that are marked and weren't written")
+
+
+def own_pages(front):
+    """Pages that only the driver writes: the descriptors and the available ring of a split queue, and headers."""
+    queue = front.queue
+    own = {queue.driver // PAGE}
+    return own | ({queue.descriptors // PAGE} if queue.FIRST == 0 else set())
+
+
+def may_be_written(front):
+    queue, disk = front.queue, front.disk
+    first, last = queue.written()
+    pages = set(range(first // PAGE, (last - 1) // PAGE + 1)) | {(FAR + SIZE - 512) // PAGE}
+    for slot in range(4):
+        pages |= set(range(disk.room(slot) // PAGE, (disk.room(slot) + disk.step) // PAGE + 1))
+    return pages | {disk.room(40) // PAGE}
+
+
+@over(*((kind,) for kind in KINDS))
+def test_marks_go_on_after_they_were_taken(make, kind):
+    """A machine clears the log again and again while requests run: each page that was written since is marked anew."""
+    with make(*options_of(kind)) as program, program.machine(kind, memory=Memory(Region(BASE, SIZE))) as front:
+        log = Log(front.memory)
+        begin_log(front, log)
+        for turn in range(20):
+            log.clear()
+            same(front.disk.do(disks.IN, turn, wanted=512).data, program.bytes(turn), f"sector {turn}")
+            room = front.disk.room(0)
+            wanted = {(room + front.disk.DATA) // PAGE, (room + front.disk.STATUS) // PAGE, front.queue.written()[0] // PAGE}
+            until = time.monotonic() + 2
+            while wanted - log.marked() and time.monotonic() < until:
+                time.sleep(0.001)
+            same(wanted - log.marked(), set(), f"pages that aren't marked in turn {turn}")
+
+
+def test_without_the_feature_nothing_is_marked(make):
+    with make() as program, program.machine(memory=Memory(Region(BASE, SIZE)), wanted=WANTED) as front:
+        log = Log(front.memory)
+        front.set_log(log.file, log.size)
+        front.disk.do(disks.IN, 1, wanted=512)
+        same(log.marked(), set(), "the marked pages")
