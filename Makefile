@@ -1,6 +1,6 @@
 # The commands of the README, the library, its installing and its packages, the measurements, tries from outside, the hosts of the
 # library, and the suite. The first sentence above a target is its line in make help.
-.PHONY: check unproved unproved-program unproved-fast unproved-fast-program run prove show vshow look-test look-picture show-check test help library install uninstall dist deb dist-check bench fuzz broken trouble stops embed linux linux-test linux-picture stress doors peer mutants matrix planted vhost-program
+.PHONY: check unproved unproved-program unproved-fast unproved-fast-program run prove show vshow look-test look-picture show-check test help library install uninstall dist deb dist-check bench fuzz broken trouble stops embed linux linux-test linux-picture stress doors peer mutants matrix planted vhost vhost-program
 
 TRACE ?= examples/two-guests.trace
 IMAGE ?=
@@ -97,6 +97,11 @@ packaging/out/libkalyubos.a: crates.txt crates/board_ffi/c_text/answer.c crates/
 vhost-program: $(if $(UNPROVED),,packaging/out/libkalyubos.a)
 	@$(if $(UNPROVED),packaging/unproved --fast board_ffi)
 	@$(MAKE) --no-print-directory -C vhost LIBRARY=$(CURDIR)/$(if $(UNPROVED),out/libkalyubos-unproved.a,packaging/out/libkalyubos.a)
+
+# Boots Debian's Linux in QEMU over what make vhost-program built, in six ways; it wants qemu-system-x86_64, busybox, cpio and fio. RUNS="verify
+# migration" chooses some.
+vhost:
+	@vhost/qemu/run vhost/out/kalyubos-vhost $(RUNS)
 
 # Removes what make install installed.
 uninstall:
