@@ -194,7 +194,7 @@ over_gate.note(proving.uses())
 # Stands for what is built, as a program and as a library.
 STANDS_FOR_BUILT = "int main(void) { return 0; }\n"
 NUMBERED = "-Wl,--build-id=sha1"
-STAND_INS = {"vreplay": [NUMBERED], "vshow": [NUMBERED], "libkalyubos.so": [NUMBERED, "-shared", "-fPIC"], "libkalyubos.a": ["-c"]}
+STAND_INS = {"vreplay": [NUMBERED], "vshow": [NUMBERED], "kalyubos-vhost": [NUMBERED], "libkalyubos.so": [NUMBERED, "-shared", "-fPIC"], "libkalyubos.a": ["-c"]}
 
 
 def release():
@@ -221,6 +221,9 @@ def options_in(text):
 
 def help_of(program):
     """What a program says by --help: those in Rattle by their source, those in Python by a call."""
+    if program == "kalyubos-vhost":
+        text = "".join(re.findall(r'"(.*)"', re.search(r"HELP\[\] =(.*?);\n", (TOP / "vhost/options.c").read_text(encoding="utf-8"), re.DOTALL)[1]))
+        return text.replace("\\n", "\n")
     if program.startswith("kalyubos-"):
         return called(TOP / "crates/conformance" / program.removeprefix("kalyubos-"), "--help").stdout
     source = (TOP / "crates" / {"vshow": "show"}.get(program, program) / "src/program.rt").read_text(encoding="utf-8")
@@ -230,7 +233,7 @@ def help_of(program):
 def manuals():
     """That each page for man has the options of its program's --help and no other, and that mandoc finds no fault in it."""
     found, wrong = 0, []
-    for path in sorted((TOP / "packaging/man").glob("*.1")):
+    for path in sorted([*(TOP / "packaging/man").glob("*.1"), TOP / "vhost/kalyubos-vhost.1"]):
         text = path.read_text(encoding="utf-8")
         tags = "\n".join(re.findall(r"^\.TP\n(.*)", text, re.MULTILINE)).replace("\\-", "-")
         said, told = set(re.findall(r'(?<![\w-])--?(?:[A-Za-z][\w-]*)?(?=[ ",]|$)', tags, re.MULTILINE)), options_in(help_of(path.stem))
