@@ -82,7 +82,7 @@ const char *mapping_open(struct mapping *mapping, const struct memory *memory, c
     mapping->base = mapping->data = reserve(mapping->len, &mapping->all);
     if (mapping->base != NULL && log->is_on)
         mapping->data = reserve(mapping->len, &mapping->data_all);
-    if (mapping->base == NULL || mapping->data == NULL || !mapping_scratch(mapping)) {
+    if (mapping->base == NULL || mapping->data == NULL) {
         mapping_close(mapping);
         return "there are no addresses for the guest's memory";
     }

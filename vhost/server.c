@@ -340,7 +340,7 @@ static void *run(void *user)
         server->base = server->layout.is_packed ? server->base : place_of_used(&server->mapping, &server->layout);
         wait_for_lost(server);
     } else {
-        server->base = place_tell(&server->window, &server->mapping, &server->layout);
+        server->base = place_tell(&server->window, &server->mapping, &server->layout, server->base);
         if (server->mapping.is_cut)
             let_go(server, CUT);
         (void)sem_post(&server->is_done);
@@ -386,10 +386,8 @@ static const char *prepare(struct server *server, const struct queue *queue)
         return why;
     if ((why = window_make(&server->window, origin->disk, &server->mapping)) == NULL) {
         why = window_drive(&server->window, origin->features, &server->layout);
-        if (why == NULL) {
-            place_set(&server->window, &server->mapping, &server->layout, queue->base);
-            why = mapping_guest(&server->mapping);
-        }
+        why = why != NULL ? why : place_set(&server->window, &server->layout, queue->base);
+        why = why != NULL ? why : mapping_guest(&server->mapping);
         if (why != NULL)
             window_end(&server->window);
     }

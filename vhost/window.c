@@ -126,14 +126,6 @@ uint32_t window_notify(struct window *window)
     return store(window, QUEUE_NOTIFY, 0);
 }
 
-void window_notify_all(struct window *window)
-{
-    uint32_t answer = window_notify(window);
-    while (answer == KALYUBOS_MORE)
-        answer = kalyubos_guest_go_on(&window->guest, &window->pending);
-    (void)window_take_interrupt(window);
-}
-
 uint32_t window_take_interrupt(struct window *window)
 {
     uint32_t word = window->pending.block;

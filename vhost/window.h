@@ -41,8 +41,6 @@ const char *window_shows(const struct disk *disk, uint64_t *features, uint8_t co
 const char *window_drive(struct window *window, uint64_t features, const struct layout *layout);
 /* Notifies the queue. The answer is the library's, as each below. */
 uint32_t window_notify(struct window *window);
-/* Notifies it and goes on until nothing is due, for memory that nobody else writes. */
-void window_notify_all(struct window *window);
 /* Acknowledges what `pending` tells: the line is level-triggered, and an eventfd is told once. */
 uint32_t window_take_interrupt(struct window *window);
 
