@@ -14,10 +14,12 @@ OF_LARGER_PAGES = {
     "crates/conformance/STANDARD.md": 1500,
     "crates/conformance/data/rows/README.md": 680,
     "crates/conformance/peers/QEMU.md": 2600,
+    "crates/conformance/peers/VHOST.md": 580,
     "crates/snapshot/README.md": 750,
     "docs/CHANGING.md": 3450,
-    "docs/DECISIONS.md": 1400,
+    "docs/DECISIONS.md": 1550,
     "docs/EMBEDDING.md": 4700,
+    "docs/VHOST.md": 520,
     "docs/LIMITS.md": 700,
     "docs/architecture.md": 1200,
     "docs/formats.md": 3150,
@@ -27,6 +29,7 @@ OF_LARGER_PAGES = {
     "examples/linux/README.md": 1600,
     "fuzz/README.md": 1150,
     "tests/power/README.md": 600,
+    "vhost/README.md": 950,
 }
 
 # The most words of a paragraph: a list's item is one; a heading, a table's row and code are none.
