@@ -20,8 +20,8 @@ unreachable-requires g c =
       c.in_default.ensures.cases.0,
     ))
 
-pub new-requires : goal.new-requires
-new-requires g c =
+pub of_lent-requires : goal.of_lent-requires
+of_lent-requires g c =
     let all = map vec_items (into_iter_items c.args.bytes.now) in
     let next = took_next c.args.regions.now all c.loop-region.region-index (record { base = 0; len = 0 })
     c.loop-region.made.items c.loop-region.made.items
@@ -37,7 +37,7 @@ loop-region-preserved g c =
     let all = map vec_items (into_iter_items c.args.bytes.now) in
     let next = took_next c.args.regions.now all c.loop-region.region-index (record { base = 0; len = 0 })
     c.loop-region.made.items c.push.new.self.items
-    c.new.result (vec_items c.in-Some.run') _ (map vec_items (into_iter_items c.next.new.self))
+    c.of_lent.result (vec_items c.in-Some.run') _ (map vec_items (into_iter_items c.next.new.self))
     c.loop-region-test.true
     (ap (map vec_items) c.in-Some.ensures.items) c.loop-region.invariant in
-    next.1 c.new.ensures.base c.new.ensures.bytes c.in_ok-push.ensures.items
+    next.1 c.of_lent.ensures.base c.of_lent.ensures.bytes c.in_ok-push.ensures.items
