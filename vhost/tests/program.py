@@ -6,7 +6,7 @@ import subprocess
 import tempfile
 
 import disks
-from front_end import FrontEnd, Memory, SPOKEN, WANTED
+from front_end import SPOKEN, WANTED, Feature, FrontEnd, Memory
 from queues import KINDS
 
 SECONDS = 10
@@ -108,7 +108,6 @@ class Program:
 
 
 def features_of(kind):
-    from front_end import Feature
     return [Feature.PACKED] if kind == "packed" else []
 
 

@@ -4,7 +4,7 @@ import struct
 import disks
 from front_end import Memory, Region
 from program import options_of, over, same
-from queues import INDIRECT, NEXT, WRITE, Silent
+from queues import INDIRECT, NEXT, WRITE, Silent, Split
 
 BASE, SIZE = 0x80000000, 4 << 20
 END = BASE + SIZE
@@ -158,7 +158,6 @@ def test_lists_of_a_packed_ring(make, name):
 
 
 def test_another_queue_goes_on(make):
-    from queues import Split
     with make("--queues=2") as program, program.machine() as front:
         other = Split(front.memory, at=BASE + 0x200000)
         front.start(other, 1)

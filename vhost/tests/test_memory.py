@@ -6,7 +6,7 @@ import time
 import disks
 from front_end import PAGE, Ended, Feature, Memory, Refused, Region, Request, WANTED
 from program import options_of, over, same
-from queues import KINDS, Silent
+from queues import KINDS
 
 BASE, SIZE, FAR = 0x80000000, 4 << 20, 0x100000000
 
