@@ -88,7 +88,7 @@ library:
 install: packaging/out/libkalyubos.a
 	@DESTDIR="$(DESTDIR)" LIBDIR="$(LIBDIR)" INCLUDEDIR="$(INCLUDEDIR)" packaging/install "$(PREFIX)"
 
-packaging/out/libkalyubos.a: crates.txt crates/board_ffi/c_text/answer.c crates/board_ffi/c_text/fault_text.c examples/embed/heap.c packaging/archive \
+packaging/out/libkalyubos.a: crates.txt crates/board_ffi/c_text/answer.c crates/board_ffi/c_text/fault_text.c examples/embed/support/heap.c packaging/archive \
 		$(shell find crates -name out -prune -o -name '*.rt' -print -o -name '*.h' -print)
 	@packaging/build
 

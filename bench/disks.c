@@ -1,5 +1,5 @@
 /*
- * How fast two guests read their disks from two files in order, through examples/embed/file_disk.c, each on a board and a
+ * How fast two guests read their disks from two files in order, through examples/embed/support/file_disk.c, each on a board and a
  * thread of its own: megabytes a second of both together. DEPTH reads of a guest are in flight at most. bench/disks builds it,
  * and runs dd beside it.
  *

@@ -1,6 +1,6 @@
 /*
  * Random reads of 4 KiB, DEPTH in flight, from a file that bypasses the page cache: by a plain io_uring loop, by one that copies
- * what it has read, and by a guest's driver whose disk is served through examples/embed/file_ring.c, and which runs behind each
+ * what it has read, and by a guest's driver whose disk is served through examples/embed/support/file_ring.c, and which runs behind each
  * eight completions. Each is one thread, in turn, ROUNDS rounds; printed are the best rate of each, the least processor time of a
  * read, and the guest's ratios to the first loop and to the second.
  * bench/random builds it.

@@ -11,6 +11,7 @@ import tempfile
 from .common import COMPILER, TOP, script
 
 LINUX, EMBED = TOP / "examples/linux", TOP / "examples/embed"
+HOSTS, SUPPORT, TESTS = EMBED / "hosts", EMBED / "support", EMBED / "tests"
 
 
 def compiled(to, sources):
@@ -84,7 +85,7 @@ def embedding():
     with tempfile.TemporaryDirectory() as folder:
         source = pathlib.Path(folder, "exits.c")
         source.write_text(EXITS + "\n".join(blocks))
-        wrong = compiled(f"{folder}/exits.o", ["-I", EMBED, source, "-c"])
+        wrong = compiled(f"{folder}/exits.o", ["-I", SUPPORT, source, "-c"])
     return not wrong, wrong or [f"its {sum(len(block.splitlines()) for block in blocks)} lines of C compile"]
 
 
@@ -134,7 +135,7 @@ def full_outlet():
         return True, [f"no {COMPILER} to build its host with"]
     if not os.access("/dev/kvm", os.R_OK | os.W_OK):
         return True, ["not tried: no /dev/kvm that may be opened"]
-    over = {"a stub": [EMBED / "kvm-stub.c"]}
+    over = {"a stub": [TESTS / "kvm-stub.c"]}
     if library():
         over["the library"] = library()
     for name, sources in over.items():
@@ -153,12 +154,12 @@ def flooded(sources, cards):
     """What is wrong with kvm.c over these sources of the library's functions, or nothing."""
     with tempfile.TemporaryDirectory() as folder:
         host = f"{folder}/kvm"
-        parts = [EMBED / name for name in ("kvm.c", "cpus.c", "device_tree.c", "file_disk.c")]
-        wrong = compiled(host, [*parts, *sources, "-pthread"])
+        parts = [HOSTS / "kvm.c", *(SUPPORT / name for name in ("cpus.c", "device_tree.c", "file_disk.c"))]
+        wrong = compiled(host, ["-I", SUPPORT, *parts, *sources, "-pthread"])
         runs = [([], "expected-guests"), (["hosted"], "expected-guests"), (["flood"], "expected-flood"), (["pair"], "expected-pair")]
         for words, expected in () if wrong else runs + [(words, "expected-cards") for words in cards]:
             ran = subprocess.run([host, *words], capture_output=True, text=True, timeout=60)
-            wanted = (EMBED / expected).read_text().splitlines()
+            wanted = (HOSTS / expected).read_text().splitlines()
             wrong += [line.rstrip() for line in difflib.unified_diff(wanted, ran.stdout.splitlines(), expected, "found", n=0)]
             wrong += ran.stderr.splitlines() if ran.returncode else []
     return wrong
@@ -170,18 +171,19 @@ MOST_LINES = 260
 
 def disks():
     """disk.c of examples/embed: two guests whose disks are files, by io_uring and by threads."""
-    length = len((EMBED / "file_disk.c").read_text().splitlines())
+    length = len((SUPPORT / "file_disk.c").read_text().splitlines())
     if length > MOST_LINES:
         return False, [f"file_disk.c has {length} lines, more than {MOST_LINES}"]
     if not shutil.which(COMPILER):
         return True, [f"no {COMPILER} to build its host with"]
-    sources, expected = [EMBED / "disk.c", EMBED / "file_disk.c", EMBED / "file_ring.c"], (EMBED / "expected-disk").read_text().splitlines()
+    sources = [HOSTS / "disk.c", SUPPORT / "file_disk.c", SUPPORT / "file_ring.c"]
+    expected = (HOSTS / "expected-disk").read_text().splitlines()
     with tempfile.TemporaryDirectory() as folder:
         if not library():
-            wrong = [line for source in sources for line in compiled(f"{folder}/{source.stem}.o", [source, "-c"])]
+            wrong = [line for source in sources for line in compiled(f"{folder}/{source.stem}.o", ["-I", SUPPORT, source, "-c"])]
             return not wrong, wrong or ["compiled alone: the library isn't built (`make library` builds it)"]
         host, ways = f"{folder}/disk", []
-        wrong = compiled(host, [*sources, *library(), "-pthread"])
+        wrong = compiled(host, ["-I", SUPPORT, *sources, *library(), "-pthread"])
         for words in () if wrong else ([], ["threads"]):
             ran = subprocess.run([host, *words], capture_output=True, text=True, timeout=60)
             wrong += [line.rstrip() for line in difflib.unified_diff(expected, ran.stdout.splitlines(), "expected-disk", "found", n=0)]
@@ -199,7 +201,7 @@ def failing_disks():
     if not shutil.which(COMPILER):
         return True, [f"no {COMPILER} to build it with"]
     with tempfile.TemporaryDirectory() as folder:
-        sources = [EMBED / "file_fails.c", EMBED / "file_disk.c", EMBED / "file_ring.c"]
+        sources = ["-I", SUPPORT, TESTS / "file_fails.c", SUPPORT / "file_disk.c", SUPPORT / "file_ring.c"]
         wrong = compiled(f"{folder}/fails", [*sources, "-pthread", *(f"-Wl,--wrap={call}" for call in CALLS)])
         if wrong:
             return False, wrong
@@ -211,9 +213,10 @@ def racing():
     """The hosts of examples/embed for guests that run on, and the program of these over KVM: that they compile without a warning."""
     if not shutil.which(COMPILER):
         return True, [f"no {COMPILER} to compile them with"]
-    sources = [EMBED / name for name in ("racing.c", "racing_threads.c", "racing_host.c", "racing_accesses.c", "kvm-racing.c", "turns.c")]
+    sources = [*(HOSTS / name for name in ("kvm-racing.c", "turns.c")), SUPPORT / "racing_host.c",
+               *(TESTS / name for name in ("racing.c", "racing_threads.c", "racing_accesses.c"))]
     with tempfile.TemporaryDirectory() as folder:
-        wrong = [line for source in sources for line in compiled(f"{folder}/{source.stem}.o", [source, "-c", "-pthread"])]
+        wrong = [line for source in sources for line in compiled(f"{folder}/{source.stem}.o", ["-I", SUPPORT, source, "-c", "-pthread"])]
         built, said = script(EMBED / "racing-build", f"{folder}/program")
     return not wrong and built, wrong + said or [f"{len(sources)} hosts and a guest compile"]
 

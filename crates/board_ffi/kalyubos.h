@@ -28,7 +28,7 @@
  *    kalyubos_read is such a call, and so is each kalyubos_write at another offset; Linux's interrupt handler makes one
  *    of either. It is proved that such a call on a board, for no further device, changes no byte of guest memory, and
  *    that none decides what it does or tells, but for the numbers of kalyubos_counters. That it doesn't read one all the
- *    same, and that a call for a further device touches none, is tested (examples/embed/untouched.c).
+ *    same, and that a call for a further device touches none, is tested (examples/embed/tests/untouched.c).
  *  - A guest that runs on (struct kalyubos_guest) is free of that: its CPUs, and whoever else has its memory, read and
  *    write it at any moment. The host's own threads do so by atomic accesses.
  *  - Where the host serves a disk, it says of an operation that it is done only once it is, as kalyubos_operation has
@@ -418,7 +418,7 @@ uint32_t kalyubos_in_flight(const struct kalyubos *board, uint8_t slot, uint8_t 
  *  - FLUSH: all that was completed before it began is on the medium, as after fdatasync. It needs to wait for nothing
  *    that is in flight beside it.
  * A host that moves bytes between the file and the guest's memory in place keeps the duty above: no transfer touches
- * the memory while a call that touches it runs for this guest. examples/embed/file_disk.c has buffers of its own, so
+ * the memory while a call that touches it runs for this guest. examples/embed/support/file_disk.c has buffers of its own, so
  * that the guest's calls go on during its transfers.
  */
 uint32_t kalyubos_operation(const struct kalyubos *board, uint8_t slot, uint8_t window, uint8_t tag,
@@ -855,7 +855,7 @@ uint32_t kalyubos_guest_interrupts(const struct kalyubos_guest *guest, uint8_t *
 uint32_t kalyubos_guest_last_fault(const struct kalyubos_guest *guest, uint8_t window, struct kalyubos_fault *fault);
 
 /*
- * The heap. The installed library has it over malloc, as examples/embed/heap.c does; a host that defines one of these
+ * The heap. The installed library has it over malloc, as examples/embed/support/heap.c does; a host that defines one of these
  * defines all of them. They are of one heap, and are called within the calls that make, judge or destroy a board or a
  * guest alone. A block is aligned to `align`, a power of two up to 16. `found` is false where there is no
  * memory, and `at` is then any address; a block that couldn't be resized stands as it was. Of a block that is resized

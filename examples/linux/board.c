@@ -8,7 +8,7 @@
 #include <sys/stat.h>
 #include <unistd.h>
 
-#include "../embed/file_disk.h"
+#include "../embed/support/file_disk.h"
 #include "disk.h"
 #include "record.h"
 #include "watch.h"

@@ -4,7 +4,7 @@
 #include <stdio.h>
 #include <stdlib.h>
 
-#include "../embed/in_place.h"
+#include "../embed/support/in_place.h"
 
 static const char *name; /* of the file, or NULL */
 

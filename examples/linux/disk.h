@@ -1,4 +1,4 @@
-/* The disks on a file in place (../embed/in_place.h). What goes wrong ends the process with a sentence about the file. */
+/* The disks on a file in place (../embed/support/in_place.h). What goes wrong ends the process with a sentence about the file. */
 #ifndef DISK_H
 #define DISK_H
 

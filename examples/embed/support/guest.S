@@ -1,6 +1,6 @@
 # A bare-metal guest for RISC-V, 64 bits: it finds its devices, reads sector 0 over a virtqueue, and puts out
 # "hello from " and the line that it found there. It ends with a0 = 0, or with the number of the step that failed.
-# emulator.c runs it; `./assemble guest > guest.h` makes bytes of it.
+# emulator.c runs it; `./assemble guest > support/guest.h` makes bytes of it.
 
         .option norelax                         # every assembler gives the same bytes
 
