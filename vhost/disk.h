@@ -18,6 +18,7 @@ struct disk {
     unsigned connections; /* how many queues of all sockets may serve it at once */
     unsigned spin;  /* for how many microseconds a queue looks again before it sleeps */
     unsigned drain; /* for how many seconds a stop waits for transfers */
+    bool is_shared; /* several front ends, or programs, may write it */
     bool read_only, direct, packed, unordered, verbose;
     atomic_uint lost; /* how many transfers were given up and haven't ended */
 };

@@ -66,7 +66,7 @@ static bool file_look(struct disk *disk)
         say(disk->path, "%s", errno == EINVAL && disk->direct ? "it can't be opened with --direct" : strerror(errno));
         return false;
     }
-    return measure(disk) && lock(disk, disk->read_only ? LOCK_SH : LOCK_EX);
+    return measure(disk) && lock(disk, disk->read_only || disk->is_shared ? LOCK_SH : LOCK_EX);
 }
 
 static struct store *file_open(void)

@@ -27,7 +27,7 @@ static const char HELP[] =
     "  --blk-file PATH       the disk: a file or a block device\n"
     "  --nbd URI             the disk: a server of NBD, as nbd+unix:///?socket=PATH or nbd://HOST/EXPORT\n"
     "  --read-only           refuse writes\n"
-    "  --shared              let several sockets write one disk: its guests must expect that\n"
+    "  --shared              let several sockets or programs write one disk: its guests must expect that\n"
     "  --serial ID           what the disk says it is, up to 20 bytes\n"
     "  --direct              pass by the page cache (O_DIRECT)\n"
     "  --queues N            offer up to N queues, each with a thread: 1 to 16 (1)\n"
@@ -147,7 +147,7 @@ static bool take(struct options *options, int option)
     case BLK_FILE: return read_disk(disk, &file_kind);
     case NBD: return read_disk(disk, &nbd_kind);
     case READ_ONLY: return disk->read_only = true;
-    case SHARED: return options->is_shared = true;
+    case SHARED: return disk->is_shared = true;
     case SERIAL: return read_serial(disk);
     case DIRECT: return disk->direct = true;
     case QUEUES_OPTION: return read_number("queues", 1, QUEUES, &disk->queues);
@@ -176,7 +176,7 @@ static bool fit(struct options *options)
         why = "--socket-path and --fd exclude each other";
     else if (disk->direct && disk->kind == &nbd_kind)
         why = "--direct is for --blk-file";
-    else if (options->paths_len > 1 && !disk->read_only && !options->is_shared)
+    else if (options->paths_len > 1 && !disk->read_only && !disk->is_shared)
         why = "guests behind several sockets would write one disk: give --read-only, or --shared where they expect that";
     if (why != NULL)
         say(NULL, "%s", why);

@@ -12,7 +12,6 @@ struct options {
     unsigned paths_len;
     int file;                   /* a socket that is open, or -1 */
     const char *user;           /* whose rights the program keeps, or NULL */
-    bool is_shared;             /* several front ends may write the disk */
     bool is_bare;               /* no filter of system calls */
 };
 

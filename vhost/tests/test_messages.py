@@ -280,3 +280,26 @@ def test_many_front_ends_one_after_another(make):
         while open_files(program) > before and time.monotonic() < until:
             time.sleep(0.01)
         same(open_files(program) <= before, True, f"whether {open_files(program)} open files are as many as {before}")
+
+
+def ends_over(program, *options):
+    """The status and the words of a second program over the disk of the first, or None while it serves it."""
+    words = [program.command, f"--socket-path={program.socket}-2", f"--blk-file={program.image}", *options]
+    with subprocess.Popen(words, stdin=subprocess.DEVNULL, stderr=subprocess.PIPE, text=True) as second:
+        try:
+            _, said = second.communicate(timeout=6)
+            return second.returncode, said.strip()
+        except subprocess.TimeoutExpired:
+            second.terminate()
+            return None
+
+
+@over(("--shared",), ("--read-only",), ())
+def test_two_programs_have_one_disk(make, *options):
+    """As a machine that moves has them: where both say that they expect it, or where neither writes."""
+    with make(*options) as program:
+        ended = ends_over(program, *options)
+        same(ended is None, options != (), f"whether it serves, and it said {ended}")
+        if ended:
+            same((ended[0], ended[1].endswith("another program has it")), (1, True), f"how it ended: {ended}")
+        program.must_serve()
