@@ -11,12 +11,12 @@ abbrev pub place_at : ℕ → WindowState → Option ℕ
 place_at q w = option_map (λ queue. (reached_of queue).place) (queue_at q w)
 
 -- a ring at this place: no service of it is under way, and nothing is in flight
-abbrev pub standing_at : ℕ → Reached
-standing_at place = record { place = place; pending = 0; used_count = 0; ahead = 0 }
+abbrev pub reached_at : ℕ → Reached
+reached_at place = record { place = place; pending = 0; used_count = 0; ahead = 0 }
 
 -- the queue at this place, if its ring has one: a packed ring counts its places twice around, by the wrap counter (2.8.1)
 abbrev pub moved_to : ℕ → Queue → Option Queue
-moved_to place queue = served_to (standing_at place) queue
+moved_to place queue = served_to (reached_at place) queue
 
 -- the window with the queue of this number at this place, if the device may serve it and its ring has the place
 abbrev pub window_moved : ℕ → ℕ → WindowState → Option WindowState
