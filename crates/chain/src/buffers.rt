@@ -179,7 +179,7 @@ impl Chain {
 
     /// What is left of the segment that a place of the writable list (`writable`) or of the readable one
     /// lies in, from that place on.
-    pub(crate) fn segment_at(&self, writable: bool, place: u64) -> Segment
+    pub fn segment_at(&self, writable: bool, place: u64) -> Segment
         requires { place < len_of writable self.now }
         ensures { result ≡ rest_at (segments_of writable self.now) place }
     {

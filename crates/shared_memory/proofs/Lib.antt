@@ -1,1 +1,2 @@
 pub mod Sightings
+pub mod Bytes

@@ -1,7 +1,7 @@
 //! Guest memory for a device whose guest may run on meanwhile.
 //!
-//! Each access is a copy, into a buffer of the device or out of it. No slice of the memory is lent, so no byte is read
-//! but by a call here, and each call reads anew.
+//! Each access is a copy, into a buffer of the device or out of it. No slice of a memory is lent that its guest may write, so no
+//! byte of it is read but by a call here, and each call reads anew.
 #![tactic(auto)]
 
 mod memory;

@@ -1,7 +1,9 @@
 //! The accesses.
 
-ghost use Rattle.std.specs.Prelude.{◌≡◌, ◌+◌, ◌^◌, ◌≤◌, ◌↔◌, Bool, IsTrue, length, false};
-ghost use Rattle.guest_memory.specs.Memory.{Inside, num, part_of};
+ghost use Rattle.std.specs.Prelude.{◌≡◌, ◌+◌, ◌^◌, ◌≤◌, ◌↔◌, Bool, IfSome, IsNone, IsTrue, length, false};
+ghost use Rattle.std.specs.List.{range_with_len};
+ghost use Rattle.guest_memory.specs.Memory.{Inside, SameRange, num, part_of};
+ghost use Rattle.shared_memory.specs.Bytes.{StoresEach};
 ghost use Rattle.shared_memory.specs.Sightings.{Sightings, Loads, Stores, memory, still};
 
 use guest_memory::GuestMemory;
@@ -56,6 +58,31 @@ pub trait Shared {
     fn store_u64(&mut self, addr: u64, v: u64)
         requires { Inside (memory (sightings self.old)) addr 8 }
         ensures stores { Stores races (sightings self.old) (sightings self.new) addr 8 v };
+
+    /// Stores bytes from `addr` on, one after another, each in a step of its own.
+    fn store(&mut self, addr: u64, bytes: &[u8])
+        requires { Inside (memory (sightings self.old)) addr (length bytes.now) }
+        ensures stored { StoresEach races (sightings self.old) (sightings self.new)
+            (range_with_len addr (length bytes.now)) bytes.now }
+        ensures range { SameRange (memory (sightings self.old)) (memory (sightings self.new)) }
+    {
+        // So no address passes 2^64.
+        self.fits(addr, bytes.len() as u64);
+        for (index, byte) in bytes.iter().enumerate() {
+            self.store_u8(addr + index as u64, *byte);
+        }
+    }
+
+    /// The bytes from `addr` on, where they stand. A memory that others may write lends none: its bytes are copied.
+    fn in_place(&self, addr: u64, n: u64) -> Option<&[u8]>
+        requires { Inside (memory (sightings self.now)) addr n }
+        ensures value { IfSome result (λ bytes. bytes.now ≡ part_of (memory (sightings self.now)) addr n) }
+        ensures races { IsTrue races → IsNone result }
+    {
+        let _ = addr;
+        let _ = n;
+        None
+    }
 }
 
 /// A guest that stands still during the calls of its devices.
@@ -94,5 +121,16 @@ impl<A: Allocator> Shared for GuestMemory<A> {
 
     fn store_u64(&mut self, addr: u64, v: u64) {
         self.write_u64(addr, v);
+    }
+
+    #[inline(always)]
+    fn store(&mut self, addr: u64, bytes: &[u8]) {
+        self.part_mut(addr, bytes.len() as u64)
+            .copy_from_slice(bytes);
+    }
+
+    #[inline(always)]
+    fn in_place(&self, addr: u64, n: u64) -> Option<&[u8]> {
+        Some(self.slice(addr, n))
     }
 }
