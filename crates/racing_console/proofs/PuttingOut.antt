@@ -17,31 +17,11 @@ use Rattle.shared_memory.specs.Sightings.{Sightings, Loads, memory}
 use Rattle.shared_memory.proofs.Sightings.{inside_loads, loads_none, loads_trans, seen_last}
 use Rattle.console_device.specs.declared.no_memory.NoMemory.{NoMemory}
 use Rattle.console_device.specs.Device.{Fits, MayRefuse, transmit_within}
-use Rattle.racing_service.specs.Device.{DoesRaced, RefusesRaced}
-use Rattle.racing_service.proofs.Seeing.{bytes_count, bytes_later, bytes_sooner, part_seen, readable_seen, seen_append}
-use Rattle.racing_console.specs.Output.{IsPutOut, NoRoom}
-
--- ---- what is put out
-
--- some bytes, and others behind them
-pub out_more : (races : Bool) (a b c : Sightings) (xs ys first mid last : List ℕ) → Loads races a b → Loads races b c
-    → IsPutOut a b xs first mid → IsPutOut b c ys mid last → IsPutOut a c (xs ++ ys) first last
-out_more races a b c xs ys first mid last loads more h k = record {
-  bytes = h.bytes ++ k.bytes;
-  seen = seen_append a c xs ys h.bytes k.bytes (bytes_later races a b c xs h.bytes more h.seen)
-      (bytes_sooner races a b c ys k.bytes loads k.seen);
-  out = k.out ∙ ap (λ l. l ++ k.bytes) h.out ∙ append_assoc first h.bytes k.bytes;
-}
-
--- bytes that were copied at one access
-pub copy_out : (races : Bool) (a b : Sightings) (addr n : ℕ) (bytes first last : List ℕ) → Loads races a b
-    → Inside (memory a) addr n → bytes ≡ part_of (memory b) addr n → last ≡ first ++ bytes
-    → IsPutOut a b (range_with_len addr n) first last
-copy_out races a b addr n bytes first last loads inside is out = record {
-  bytes = bytes;
-  seen = rw is (part_seen a b (memory b) addr n (seen_last races a b loads) (inside_loads races a b addr n loads inside));
-  out = out;
-}
+use Rattle.chain_handler.specs.Device.{DoesRaced, RefusesRaced}
+use Rattle.chain_handler.proofs.Doing.{out_more}
+use Rattle.chain_handler.proofs.Seeing.{bytes_count, bytes_later, bytes_sooner, part_seen, readable_seen, seen_append}
+use Rattle.chain_handler.specs.Output.{IsPutOut}
+use Rattle.racing_console.specs.Output.{NoRoom}
 
 -- ---- a segment
 

@@ -12,10 +12,12 @@ use Rattle.shared_memory.specs.Sightings.{Sightings, memory}
 use Rattle.shared_memory.proofs.Sightings.{loads_none}
 use Rattle.console_device.specs.Device.{receive}
 use Rattle.console_device.proofs.Receiving.{receive_does, take-append, take_fewer}
-use Rattle.racing_service.specs.Device.{DoesRaced}
-use Rattle.racing_service.specs.Storing.{StoresEach, StoresSome}
-use Rattle.racing_service.proofs.Seeing.{readable_seen}
-use Rattle.racing_service.proofs.Rows.{each_join, few_places, first_some}
+use Rattle.chain_handler.specs.Device.{DoesRaced}
+use Rattle.chain_handler.specs.Storing.{StoresSome}
+use Rattle.shared_memory.specs.Bytes.{StoresEach}
+use Rattle.chain_handler.proofs.Seeing.{readable_seen}
+use Rattle.chain_handler.proofs.Rows.{few_places, first_some}
+use Rattle.shared_memory.proofs.Bytes.{each_join}
 
 -- ---- the two parts of the ring
 

@@ -8,12 +8,12 @@ use Rattle.chain.specs.Service.{Entry}
 use Rattle.shared_memory.specs.Sightings.{Sightings, memory}
 use Rattle.console_device.specs.declared.no_memory.NoMemory.{NoMemory}
 use Rattle.console_device.specs.Device.{transmit_within}
-use Rattle.racing_service.specs.Device.{RefusesRaced}
+use Rattle.chain_handler.specs.Device.{RefusesRaced}
 use Rattle.racing_service.specs.Queue.{RacingKind}
 use Rattle.racing_service.specs.declared.stage.Stage.TheVariants.{First}
 use Rattle.racing_service.specs.Service.{Round, RunsUpTo, Standing, stage_behind}
 use Rattle.racing_service.specs.Laws.{site_of}
-use Rattle.racing_service.proofs.Standing.{read_still}
+use Rattle.chain_handler.proofs.Still.{read_still}
 use Rattle.racing_service.proofs.Rounds.{StandsStill, all_services, left_service}
 use Rattle.racing_console.specs.Output.{NoRoom}
 use Rattle.racing_console.specs.Serving.{EndsFull, IsFull}

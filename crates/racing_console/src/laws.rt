@@ -12,7 +12,7 @@ ghost use Rattle.packed_ring.specs.Kind.{packed_kind};
 ghost use Rattle.console_device.specs.declared.no_memory.NoMemory.{NoMemory};
 ghost use Rattle.console_device.specs.Device.{receive, transmit_within};
 ghost use Rattle.shared_memory.specs.Sightings.{Sightings, memory};
-ghost use Rattle.racing_service.specs.Device.{DoesRaced, RefusesRaced};
+ghost use Rattle.chain_handler.specs.Device.{DoesRaced, RefusesRaced};
 ghost use Rattle.racing_service.specs.Queue.{racing_packed, racing_split};
 ghost use Rattle.racing_service.specs.Service.{Standing};
 ghost use Rattle.racing_service.specs.Laws.{site_of};

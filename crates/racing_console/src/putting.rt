@@ -6,7 +6,7 @@ ghost use Rattle.guest_memory.specs.Memory.{Inside};
 ghost use Rattle.chain.specs.Buffers.{Good};
 ghost use Rattle.chain.specs.Bytes.{addresses, addresses_of, len_of};
 ghost use Rattle.shared_memory.specs.Sightings.{Loads, memory};
-ghost use Rattle.racing_console.specs.Output.{IsPutOut};
+ghost use Rattle.chain_handler.specs.Output.{IsPutOut};
 
 use chain::{Chain, Segment};
 use console_device::Outlet;

@@ -4,29 +4,26 @@ ghost use Rattle.std.specs.Prelude.{◌≡◌, length, take};
 ghost use Rattle.chain.specs.Buffers.{Good};
 ghost use Rattle.chain.specs.Bytes.{writable_of};
 ghost use Rattle.shared_memory.specs.Sightings.{memory};
-ghost use Rattle.racing_service.specs.Storing.{StoresEach};
+ghost use Rattle.shared_memory.specs.Bytes.{StoresEach};
 
-use chain::{Chain, Runs, Used};
+use chain::{Chain, Used};
+use chain_handler::{ChainHandler, store_in_chain};
 use console_device::{ConsoleDevice, NoMemory};
-use racing_service::{RacingHandler, store_in_chain};
 use shared_memory::Shared;
 use std::alloc::Allocator;
 
 /// Stores pending input in the writable places of chains. It refuses none.
 #[derive(Drop)]
-pub struct RacingReceive {
-    // For the runs of a chain's places.
-    room: Runs,
-}
+pub struct RacingReceive;
 
 impl RacingReceive {
-    /// A device, with room for the places that it stores in.
+    /// A device.
     pub fn new() -> RacingReceive {
-        RacingReceive { room: Runs::new() }
+        RacingReceive
     }
 }
 
-impl<A: Allocator> RacingHandler<ConsoleDevice<A>> for RacingReceive {
+impl<A: Allocator> ChainHandler<ConsoleDevice<A>> for RacingReceive {
     type Refusal = NoMemory;
 
     ghost use Rattle.std.specs.Prelude.{ℕ, List};
@@ -56,7 +53,7 @@ impl<A: Allocator> RacingHandler<ConsoleDevice<A>> for RacingReceive {
         chain: &Chain,
         console: &mut ConsoleDevice<A>,
     ) -> Result<Used, NoMemory> {
-        let count = store_input(mem, chain, console, &mut self.room);
+        let count = store_input(mem, chain, console);
         console.skip_input(count);
         Ok(Used {
             len: count as u32,
@@ -71,7 +68,6 @@ fn store_input<M: Shared, A: Allocator>(
     mem: &mut M,
     chain: &Chain,
     console: &ConsoleDevice<A>,
-    room: &mut Runs,
 ) -> usize
     requires good { Good (memory (M.sightings mem.old)) chain.now }
     ensures count { result ≡ length (take (length (writable_of chain.now)) console.now.pending) }
@@ -82,7 +78,7 @@ fn store_input<M: Shared, A: Allocator>(
     let (front, back) = console.pending();
     let from_front = front.len().min(places);
     let from_back = back.len().min(places - from_front);
-    store_in_chain(mem, chain, 0, &front[..from_front], room);
-    store_in_chain(mem, chain, from_front as u64, &back[..from_back], room);
+    store_in_chain(mem, chain, 0, &front[..from_front]);
+    store_in_chain(mem, chain, from_front as u64, &back[..from_back]);
     from_front + from_back
 }

@@ -5,12 +5,12 @@ ghost use Rattle.chain.specs.Buffers.{Good};
 ghost use Rattle.chain.specs.Bytes.{addresses_of, len_of};
 ghost use Rattle.console_device.specs.Device.{Fits, MayRefuse};
 ghost use Rattle.shared_memory.specs.Sightings.{Loads, memory};
-ghost use Rattle.racing_console.specs.Output.{IsPutOut};
+ghost use Rattle.chain_handler.specs.Output.{IsPutOut};
 
 use crate::putting::put_buffers;
 use chain::{Chain, Used};
+use chain_handler::ChainHandler;
 use console_device::{NoMemory, Outlet};
-use racing_service::RacingHandler;
 use shared_memory::Shared;
 
 /// How many bytes are copied at once.
@@ -32,7 +32,7 @@ impl RacingTransmit {
     }
 }
 
-impl<O: Outlet> RacingHandler<O> for RacingTransmit {
+impl<O: Outlet> ChainHandler<O> for RacingTransmit {
     type Refusal = NoMemory;
 
     ghost use Rattle.std.specs.Prelude.{ℕ, List, Option};

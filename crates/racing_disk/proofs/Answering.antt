@@ -21,9 +21,10 @@ use Rattle.block_device.specs.Device.{GivesBy}
 use Rattle.block_device.specs.Progress.{IsServable}
 use Rattle.block_device.specs.Request.{code_of, payload_of}
 use Rattle.block_device.proofs.Answering.{used_len-found, used_len-status}
-use Rattle.racing_service.specs.Device.{StoresAtOnce}
-use Rattle.racing_service.specs.Storing.{StoresEach, StoresSome}
-use Rattle.racing_service.proofs.Rows.{each_some, once_some}
+use Rattle.chain_handler.specs.Device.{StoresAtOnce}
+use Rattle.chain_handler.specs.Storing.{StoresSome}
+use Rattle.shared_memory.specs.Bytes.{StoresEach}
+use Rattle.chain_handler.proofs.Rows.{each_some, once_some}
 use Rattle.racing_disk.specs.Answering.{HasFound, IsAnswered}
 use Rattle.racing_disk.specs.Telling.{IsLeft, WasLeft}
 

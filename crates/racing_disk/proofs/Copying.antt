@@ -1,4 +1,4 @@
--- A copy of places of the readable list, run after run.
+-- A copy of the first places of the readable list, from the first buffer.
 use Rattle.std.proofs.Common.{◌≡◌, ◌∙◌, ℕ, zero, suc, ◌+◌, ◌-◌, ◌<◌, ◌≤◌, false, Bool, List, [], ◌∷◌, length, get_or, take, drop, refl, sym, ap, arith}
 use Rattle.std.specs.Prelude.{All, IsSomeAnd, slice_index_or}
 use Rattle.std.specs.List.{flat_map, range_with_len, slice_get}
@@ -16,62 +16,8 @@ use Rattle.chain.specs.Bytes.{addresses, addresses_of}
 use Rattle.chain.proofs.Contents.{length-put_mid}
 use Rattle.shared_memory.specs.Sightings.{Sightings, Loads, memory}
 use Rattle.shared_memory.proofs.Sightings.{loads_range, loads_trans, seen_last, seen_sooner}
-use Rattle.racing_service.specs.Device.{AreBytesSeen}
-use Rattle.racing_service.proofs.Rows.{AreFirst, blank, first_all, first_more, next_places, part_long, run_fits, run_inside}
-use Rattle.racing_service.proofs.Seeing.{bytes_later, part_seen, seen_append}
-
--- ---- the runs
-
--- the first of these runs were copied into the first bytes
-pub record Copied (races : Bool) (old now : Sightings) (buffers : List Buffer) (from n : ℕ) (runs : List Segment)
-    (index done : ℕ) (into : List ℕ) : Type 0 where
-  pub first : AreFirst false buffers from n runs index done
-  pub seen : AreBytesSeen old now (flat_map addresses (take index runs)) (take done into)
-  pub loads : Loads races old now
-  pub long : length into ≡ n
-
-module _ {races : Bool} {old now : Sightings} {buffers : List Buffer} {from n : ℕ} {runs : List Segment}
-    {index done : ℕ} {into : List ℕ} (h : Copied races old now buffers from n runs index done into) where
-  -- the next one's bytes go into the part behind
-  pub copied_more : index < length runs → All (Within (memory old)) buffers → (next : Sightings) → Loads races now next
-      → (bytes : List ℕ)
-      → bytes ≡ part_of (memory next) (get_or runs index blank).addr
-      (length (take (done + (get_or runs index blank).len - done) (drop done into)))
-      → Copied races old next buffers from n runs (index + 1) (done + (get_or runs index blank).len)
-      (put_mid done (done + (get_or runs index blank).len - done) into bytes)
-  copied_more below good next loads bytes is =
-      let here = get_or runs index blank in
-      let within : done + here.len ≤ length into = omega (arith, run_fits h.first below, h.long) in
-      let on = loads_trans races old now next h.loads loads in
-      let inside = run_inside h.first below (memory old) (memory next) good (loads_range races old next on) in
-      let read : bytes ≡ part_of (memory next) here.addr here.len =
-      is ∙ ap (part_of (memory next) here.addr) (part_long done here.len into within) in
-      let size : length bytes ≡ here.len = ap length read ∙ length-part_of (memory next) here.addr here.len inside in
-      let one : AreBytesSeen old next (addresses here) bytes =
-      rw read (part_seen old next (memory next) here.addr here.len
-      (seen_sooner races old now next (memory next) h.loads (seen_last races now next loads)) inside) in
-      let k : done + here.len - done ≡ here.len = omega arith in
-      record {
-        first = first_more h.first below;
-        seen = rw (
-          next_places runs index blank below,
-          take-put_mid done (done + here.len - done) into bytes (done + here.len)
-              (omega (arith, size)) (omega (arith, within)),
-        )
-            (seen_append old next (flat_map addresses (take index runs)) (addresses here) (take done into) bytes
-            (bytes_later races old now next (flat_map addresses (take index runs)) (take done into) loads h.seen) one);
-        loads = on;
-        long = length-put_mid done (done + here.len - done) into bytes (size ∙ sym k) (omega (arith, within)) ∙ h.long;
-      }
-
-  -- all of them
-  pub copied_all : length runs ≤ index → AreBytesSeen old now (take n (drop from (addresses_of false buffers))) into
-  copied_all all =
-      let whole = first_all h.first all in
-      let bytes : take done into ≡ into = take_all done into (omega (arith, whole.0, h.long)) in
-      rw (← whole.1, ← bytes) h.seen
-
--- ---- the first buffer
+use Rattle.shared_memory.specs.Bytes.{AreBytesSeen}
+use Rattle.chain_handler.proofs.Seeing.{bytes_later, part_seen, seen_append}
 
 take_range : (a n k : ℕ) → k ≤ n → take k (range_with_len a n) ≡ range_with_len a k
 take_range a n zero fits = refl

@@ -20,9 +20,9 @@ use Rattle.block_device.specs.Asking.{HasHeader, IsKnown, IsZeroes}
 use Rattle.block_device.specs.Operation.{zeroes_in}
 use Rattle.block_device.specs.Request.{AreRead, payload_of, write_zeroes_request_of}
 use Rattle.block_device.specs.Zeroes.{are_segments}
-use Rattle.racing_service.specs.Device.{AreBytesSeen}
-use Rattle.racing_service.proofs.Seeing.{bytes_count, bytes_later, bytes_sooner, readable_seen, seen_append}
-use Rattle.racing_service.proofs.Standing.{good_same}
+use Rattle.shared_memory.specs.Bytes.{AreBytesSeen}
+use Rattle.chain_handler.proofs.Seeing.{bytes_count, bytes_later, bytes_sooner, readable_seen, seen_append}
+use Rattle.chain_handler.proofs.Still.{good_same}
 use Rattle.racing_disk.specs.Copying.{HasPayload, IsCopy, IsHeader}
 use Rattle.racing_disk.specs.Segments.{HasSegments}
 use Rattle.racing_disk.specs.Judging.{IsJudged, IsZeroing}

@@ -15,7 +15,7 @@ use Rattle.block_device.specs.Operation.{operation_of, runs_by}
 use Rattle.racing_service.specs.declared.stage.Stage.{Stage}
 use Rattle.racing_service.specs.Queue.{RacingKind}
 use Rattle.racing_service.specs.Service.{Standing, standing_at}
-use Rattle.racing_service.proofs.Seeing.{bytes_count}
+use Rattle.chain_handler.proofs.Seeing.{bytes_count}
 use Rattle.racing_disk.specs.Answering.{IsAnsweredIn}
 use Rattle.racing_disk.specs.Looking.{FindsOneThatAsks, FindsOneToAnswer, FindsRequest}
 use Rattle.racing_disk.specs.Telling.{HasStatus, IsLeft, WasLeft}

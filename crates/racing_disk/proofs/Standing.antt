@@ -18,8 +18,8 @@ use Rattle.block_device.specs.Operation.{IsToldToHost, runs_by, runs_for, zeroes
 use Rattle.block_device.specs.Progress.{IsServable}
 use Rattle.block_device.specs.Request.{code_of, payload_of, request_of}
 use Rattle.block_device.proofs.Telling.{zeroes_are}
-use Rattle.racing_service.specs.Device.{DoesRaced, RefusesRaced}
-use Rattle.racing_service.proofs.Standing.{does_still, read_still}
+use Rattle.chain_handler.specs.Device.{DoesRaced, RefusesRaced}
+use Rattle.chain_handler.proofs.Still.{does_still, read_still}
 use Rattle.racing_disk.specs.Copying.{IsCopy}
 use Rattle.racing_disk.specs.Answering.{IsAnswered}
 use Rattle.racing_disk.specs.Completing.{IsCompleted}

@@ -10,9 +10,9 @@ use Rattle.block_device.specs.declared.request.Request.{Request}
 use Rattle.block_device.specs.declared.request.RequestStatus.{RequestStatus}
 use Rattle.block_device.specs.Asking.{EndsUnasked}
 use Rattle.block_device.specs.Hosting.{hosted_device}
-use Rattle.racing_service.specs.Device.{Part, StoresParts}
+use Rattle.chain_handler.specs.Device.{Part, StoresParts}
 use Rattle.racing_service.specs.Queue.{RacingKind}
-use Rattle.racing_service.specs.Storing.{StoresEach}
+use Rattle.shared_memory.specs.Bytes.{StoresEach}
 
 -- The request asks nothing of the disk, and whatever that is, it ends with this status, and with these bytes in the first
 -- writable places.

@@ -2,7 +2,7 @@
 use Rattle.std.specs.Prelude.{◌≡◌, ℕ, ◌-◌, Bool, true, Some, [], ◌∷◌}
 use Rattle.chain.specs.Service.{Entry}
 use Rattle.shared_memory.specs.Sightings.{Sightings}
-use Rattle.racing_service.specs.Device.{StoresAtOnce}
+use Rattle.chain_handler.specs.Device.{StoresAtOnce}
 use Rattle.racing_service.specs.Queue.{RacingKind}
 use Rattle.block_device.specs.declared.operation.OperationKind.{OperationKind}
 use Rattle.block_device.specs.declared.operation.Verdict.{Verdict}

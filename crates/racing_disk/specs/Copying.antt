@@ -4,7 +4,7 @@ use Rattle.byteorder.specs.Endian.{little_number}
 use Rattle.chain.specs.declared.segment.Buffer.{Buffer}
 use Rattle.chain.specs.Bytes.{addresses_of}
 use Rattle.shared_memory.specs.Sightings.{Sightings}
-use Rattle.racing_service.specs.Device.{AreBytesSeen}
+use Rattle.shared_memory.specs.Bytes.{AreBytesSeen}
 
 -- Each of these is a byte of the readable list as it stood at its place's address at some access. Of a place that is
 -- copied once there is one such byte, whatever the guest writes.

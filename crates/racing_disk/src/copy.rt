@@ -1,19 +1,20 @@
-//! A copy of places of a chain's readable list, in a buffer of the device's own.
+//! A copy of the first places of a chain's readable list.
 
-ghost use Rattle.std.specs.Prelude.{◌≡◌, ◌+◌, ◌≤◌, ◌<◌, IsTrue, IsSomeAnd, false, length, take, drop};
+ghost use Rattle.std.specs.Prelude.{◌≡◌, ◌≤◌, IsTrue, IsSomeAnd, false, length, take};
 ghost use Rattle.std.specs.List.{slice_get};
 ghost use Rattle.chain.specs.Buffers.{Good};
 ghost use Rattle.chain.specs.Bytes.{addresses_of, len_of};
 ghost use Rattle.shared_memory.specs.Sightings.{Loads, memory};
-ghost use Rattle.racing_service.specs.Device.{AreBytesSeen};
+ghost use Rattle.shared_memory.specs.Bytes.{AreBytesSeen};
 
-use chain::{Buffer, Chain, Runs};
+use chain::{Buffer, Chain};
+use chain_handler::read_in_chain;
 use shared_memory::Shared;
 
 /// Copies the first bytes of the readable list into all of `into`: each place is read once. Where the chain's first buffer has
-/// them, as most drivers' has, one access does. `room` is for the runs of these places.
+/// them, as most drivers' has, one access does.
 #[inline(always)]
-pub(crate) fn copy_first<M: Shared>(mem: &mut M, chain: &Chain, into: &mut [u8], room: &mut Runs)
+pub(crate) fn copy_first<M: Shared>(mem: &mut M, chain: &Chain, into: &mut [u8])
     requires good { Good (memory (M.sightings mem.old)) chain.now }
     requires range { length into.old ≤ len_of false chain.now }
     ensures copied { AreBytesSeen (M.sightings mem.old) (M.sightings mem.new)
@@ -24,7 +25,7 @@ pub(crate) fn copy_first<M: Shared>(mem: &mut M, chain: &Chain, into: &mut [u8],
     if has_first(buffers, into.len()) {
         mem.load(buffers[0].segment.addr, into);
     } else {
-        copy(mem, chain, 0, into, room);
+        read_in_chain(mem, chain, 0, into);
     }
 }
 
@@ -37,32 +38,5 @@ fn has_first(buffers: &[Buffer], len: usize) -> bool
     match buffers.first() {
         Some(first) => !first.writable && len <= first.segment.len as usize,
         None => false,
-    }
-}
-
-/// Copies the bytes from place `from` of the readable list on into all of `into`: each place is read once. `room` is for the
-/// runs of these places.
-pub(crate) fn copy<M: Shared>(
-    mem: &mut M,
-    chain: &Chain,
-    from: u64,
-    into: &mut [u8],
-    room: &mut Runs,
-)
-    requires good { Good (memory (M.sightings mem.old)) chain.now }
-    requires range { from + length into.old ≤ len_of false chain.now }
-    ensures copied { AreBytesSeen (M.sightings mem.old) (M.sightings mem.new)
-        (take (length into.old) (drop from (addresses_of false chain.now))) into.new }
-    ensures loads { Loads M.races (M.sightings mem.old) (M.sightings mem.new) }
-{
-    // What it ensures: no place passes 2^32.
-    let _ = chain.buffers();
-    chain.runs(false, from, from + into.len() as u64, room);
-    let runs = room.as_slice();
-    let mut done = 0;
-    for run in runs {
-        let len = run.len as usize;
-        mem.load(run.addr, &mut into[done..done + len]);
-        done += len;
     }
 }

@@ -17,7 +17,7 @@ ghost use Rattle.block_device.specs.declared.hosting.Flight.{Flight};
 ghost use Rattle.block_device.specs.declared.operation.Verdict.{Verdict};
 ghost use Rattle.block_device.specs.Hosting.{hosted_device};
 ghost use Rattle.block_device.specs.Hosting as hosting;
-ghost use Rattle.racing_service.specs.Device.{DoesRaced, RefusesRaced};
+ghost use Rattle.chain_handler.specs.Device.{DoesRaced, RefusesRaced};
 ghost use Rattle.racing_disk.specs.Answering.{IsAnswered};
 ghost use Rattle.racing_disk.specs.Completing.{IsCompleted};
 ghost use Rattle.racing_disk.specs.Copying.{IsCopy};

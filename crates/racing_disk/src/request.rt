@@ -32,7 +32,7 @@ impl RacingDisk {
         if readable < HEADER_LEN {
             return Request::Rejected(RequestStatus::IoError);
         }
-        let header = read_header(mem, chain, runs);
+        let header = read_header(mem, chain);
         match self.device.headed_by(header, readable, room) {
             Headed::Known(request) => request,
             Headed::Zeroes(_) => self.zeroes_request(mem, chain, readable - HEADER_LEN, runs),

@@ -12,12 +12,12 @@ ghost use Rattle.racing_disk.specs.Copying.{HasPayload};
 ghost use Rattle.racing_disk.specs.Judging.{IsZeroing};
 ghost use Rattle.racing_disk.specs.Segments.{HasSegments};
 
-use crate::copy::copy;
 use crate::disk::RacingDisk;
 use block_device::{
     HEADER_LEN, MOST_SEGMENT_BYTES, Request, RequestStatus, Segments, are_segments,
 };
 use chain::{Chain, Runs};
+use chain_handler::read_in_chain;
 use shared_memory::Shared;
 
 /// The segments in the `len` bytes behind the header of a chain, which are copied into `bytes`.
@@ -26,7 +26,6 @@ fn read_segments<M: Shared>(
     chain: &Chain,
     len: u64,
     bytes: &mut [u8; MOST_SEGMENT_BYTES],
-    room: &mut Runs,
 ) -> Segments
     requires good { Good (memory (M.sightings mem.old)) chain.now }
     requires payload { len_of false chain.now ≡ 16 + len }
@@ -36,7 +35,7 @@ fn read_segments<M: Shared>(
     ensures loads { Loads M.races (M.sightings mem.old) (M.sightings mem.new) }
 {
     let payload = &mut bytes[..len as usize];
-    copy(mem, chain, HEADER_LEN, payload, room);
+    read_in_chain(mem, chain, HEADER_LEN, payload);
     Segments::of(payload)
 }
 
@@ -56,7 +55,7 @@ impl RacingDisk {
             (λ payload. IsZeroing self.now.device payload result runs.new) }
         ensures loads { Loads M.races (M.sightings mem.old) (M.sightings mem.new) }
     {
-        match self.judged_segments(mem, chain, len, runs) {
+        match self.judged_segments(mem, chain, len) {
             Ok(segments) => {
                 segments.tell(self.device.extent.count, runs);
                 Request::WriteZeroes {
@@ -74,7 +73,6 @@ impl RacingDisk {
         mem: &mut M,
         chain: &Chain,
         len: u64,
-        room: &mut Runs,
     ) -> Result<Segments, RequestStatus>
         requires good { Good (memory (M.sightings mem.old)) chain.now }
         requires payload { len_of false chain.now ≡ 16 + len }
@@ -88,7 +86,7 @@ impl RacingDisk {
             return Err(RequestStatus::IoError);
         }
         let mut bytes = [0; MOST_SEGMENT_BYTES];
-        let segments = read_segments(mem, chain, len, &mut bytes, room);
+        let segments = read_segments(mem, chain, len, &mut bytes);
         self.device.judged(segments)
     }
 }

@@ -3,11 +3,11 @@
 use crate::disk::RacingDisk;
 use block_device::Request;
 use chain::{Chain, Runs, Used};
-use racing_service::RacingHandler;
+use chain_handler::ChainHandler;
 use shared_memory::Shared;
 
 /// A chain without a place for a status is used at once. Any other is left, with its request and the runs of its segments.
-impl RacingHandler<Runs> for RacingDisk {
+impl ChainHandler<Runs> for RacingDisk {
     type Refusal = Request;
 
     ghost use Rattle.std.specs.Prelude.{◌*◌, ◌^◌, ◌<◌};

@@ -19,7 +19,7 @@ use Rattle.racing_service.specs.Queue.{RacingKind}
 use Rattle.racing_service.specs.Service.{Standing}
 use Rattle.racing_service.proofs.Flights.{moves}
 use Rattle.racing_service.proofs.Moving.{Keeps, keeps_trans, refused_keeps}
-use Rattle.racing_service.proofs.Standing.{does_range}
+use Rattle.chain_handler.proofs.Still.{does_range}
 use Rattle.racing_disk.specs.Looking.{FindsOneThatAsks, FindsOneToAnswer, FindsRequest}
 use Rattle.racing_disk.specs.Telling.{IsLeft}
 use Rattle.racing_disk.proofs.Standing.{answer_served}

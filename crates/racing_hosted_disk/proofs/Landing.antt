@@ -18,7 +18,7 @@ use Rattle.racing_service.specs.Queue.{RacingKind}
 use Rattle.racing_service.specs.Service.{standing_at}
 use Rattle.racing_service.proofs.Flights.{ahead_in, ahead_landed, ahead_stays, moves}
 use Rattle.racing_service.proofs.Moving.{closing_keeps}
-use Rattle.racing_service.proofs.Standing.{scattered_range}
+use Rattle.chain_handler.proofs.Still.{scattered_range}
 use Rattle.block_device.specs.declared.hosting.Flight.{Flight}
 use Rattle.racing_disk.specs.Completing.{IsGivenBack}
 use Rattle.racing_hosted_disk.specs.Disk.{HoldsFlights, RacingHostedDisk}

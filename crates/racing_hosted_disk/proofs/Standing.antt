@@ -9,7 +9,7 @@ use Rattle.shared_memory.specs.Sightings.{Sightings, memory, still}
 use Rattle.shared_memory.proofs.Sightings.{loads_none}
 use Rattle.block_device.specs.Hosting.{hosted_device}
 use Rattle.racing_service.proofs.LeftAlone.{LeftLaws, left_at_once}
-use Rattle.racing_service.proofs.Seeing.{readable_seen}
+use Rattle.chain_handler.proofs.Seeing.{readable_seen}
 use Rattle.racing_disk.specs.Telling.{IsLeft}
 use Rattle.block_device.specs.declared.device.BlockDevice.{BlockDevice}
 use Rattle.block_device.specs.declared.operation.Verdict.{Verdict}
@@ -20,7 +20,7 @@ use Rattle.racing_service.specs.declared.stage.Stage.{Stage}
 use Rattle.racing_service.specs.Queue.{RacingKind}
 use Rattle.racing_service.specs.Service.{Standing}
 use Rattle.racing_service.proofs.Rounds.{StandsStill}
-use Rattle.racing_service.proofs.Standing.{one_still, read_still}
+use Rattle.chain_handler.proofs.Still.{one_still, read_still}
 use Rattle.racing_disk.proofs.Standing.{left_still, runs_still, told_still}
 use Rattle.racing_hosted_disk.specs.Laws.{IsAskedAlone, IsToldOf, LandsAsOne, moment_asked}
 use Rattle.racing_hosted_disk.specs.Looking.{AsksIn, Place}

@@ -14,7 +14,7 @@ use Rattle.racing_service.specs.declared.stage.Stage.TheVariants.{First, Next, A
 use Rattle.racing_service.specs.declared.service.Stop.{Stop}
 use Rattle.racing_service.specs.declared.service.Stop.TheVariants.{Idle, Dry, Paused, Broken}
 use Rattle.racing_service.specs.Queue.{RacingKind}
-use Rattle.racing_service.specs.Device.{DoesRaced, RefusesRaced}
+use Rattle.chain_handler.specs.Device.{DoesRaced, RefusesRaced}
 use Rattle.racing_service.specs.Service.{Standing, Halt, Drained, Met, Limited, Round, any_wanted, standing_at, ServesOne, ServesSome, OnlyLoads, FindsNone, Serves, IsOpened, Works, IsRun, IsClosing, IsRound, ServesAny, IsBusyRun, IsBusyRound, AreBusyRounds, IsFirstRound, AreRounds, IsLook, EndsWith, EndsBy, IsRacingService, IsRefusedService, RunsAs, RunsUpTo, ServesAs, ServesUpTo, ending_of, fault_at, opened_at, stage_behind}
 use Rattle.racing_service.specs.declared.service.Held.{Held}
 use Rattle.racing_service.specs.declared.service.Ending.{Ending}

@@ -36,7 +36,7 @@ use Rattle.racing_service.specs.Queue.{RacingKind, racing_packed, racing_split}
 use Rattle.racing_service.specs.Service.{Standing, LeavesOne}
 use Rattle.racing_service.specs.LeftAlone.{IsLeftAlone, IsLeftAtOnce, IsServedAtOnce, KeepsPacked, KeepsSplit, LeavesAlone, LeavesPacked, LeavesSplit, OneServed}
 use Rattle.racing_service.proofs.Rings.{packed_stands_still, split_stands_still}
-use Rattle.racing_service.proofs.Standing.{read_steady}
+use Rattle.chain_handler.proofs.Still.{read_steady}
 
 -- ---- a list that is walked in another table with the same members
 

@@ -1,10 +1,7 @@
 pub mod Coming
-pub mod Standing
 pub mod Rounds
 pub mod Rings
 pub mod Looking
-pub mod Seeing
 pub mod Moving
 pub mod Flights
-pub mod Rows
 pub mod LeftAlone

@@ -14,7 +14,7 @@ use Rattle.racing_service.specs.declared.stage.Stage.TheVariants.{First, Next, A
 use Rattle.racing_service.specs.Queue.{RacingKind}
 use Rattle.racing_service.specs.Service.{Standing, Halt, Drained, Met, Limited, Round, ServesOne, ServesSome, OnlyLoads, HaltsBy, Serves, IsOpened, Works, IsRun, IsClosing, IsRound, AreBusyRounds, AreRounds, IsSettled, EndsBy, IsRacingService, IsRefusedService, fault_at, opened_at, stage_behind}
 use Rattle.racing_service.proofs.Coming.{busy_is_round, first_is_round}
-use Rattle.racing_service.proofs.Standing.{does_range}
+use Rattle.chain_handler.proofs.Still.{does_range}
 
 -- what each call keeps of a queue, but a launch and a landing; and what is stored leaves the memory's range
 pub record MoveLaws {Ring : Type 0} (kind : RacingKind Ring) (Stays : Ring → Ring → Type 0) : Type 0 where

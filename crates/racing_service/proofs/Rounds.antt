@@ -17,7 +17,7 @@ use Rattle.racing_service.specs.declared.service.Ending.TheVariants.{Settled}
 use Rattle.racing_service.specs.declared.stage.Stage.TheVariants.{First, Again}
 use Rattle.racing_service.specs.Laws.{AreServices, site_of}
 use Rattle.racing_service.proofs.Coming.{busy_is_round}
-use Rattle.racing_service.proofs.Standing.{does_still, one_still, read_still, scattered_range}
+use Rattle.chain_handler.proofs.Still.{does_still, one_still, read_still, scattered_range}
 
 -- What a kind of ring has to be for that: its definitions are those of the kind of a guest that stands still, where a ring
 -- is sound for its memory, which it stays.

@@ -2,7 +2,7 @@
 -- 2.8.21). What each chain of a service is then, whatever else the guest writes.
 use Rattle.std.specs.Prelude.{◌≡◌, ℕ, ◌≤◌, Bool, true, false, Option, Some, None, List, [], ◌∷◌, ◌++◌, All}
 use Rattle.std.proofs.Common.{inl, inr}
-use Rattle.guest_memory.specs.Memory.{Memory, part_of}
+use Rattle.guest_memory.specs.Memory.{Memory}
 use Rattle.chain.specs.declared.segment.Buffer.{Buffer}
 use Rattle.chain.specs.declared.fault.Fault.{Fault}
 use Rattle.chain.specs.declared.state.RingState.{RingState}
@@ -10,6 +10,7 @@ use Rattle.chain.specs.Bytes.{addresses_of, readable_of}
 use Rattle.chain.specs.Service.{Device, Entry, Served, ServesChain, Site}
 use Rattle.split_ring.specs.Ring.{head_of, table_of}
 use Rattle.packed_ring.specs.Ring.{descriptor_addr}
+use Rattle.shared_memory.specs.Bytes.{IsSteady}
 use Rattle.shared_memory.specs.Sightings.{Sightings, memory}
 use Rattle.racing_ring.specs.Split as split
 use Rattle.racing_ring.specs.Packed as packed
@@ -45,10 +46,6 @@ pub record KeepsSplit (begin : ℕ) (new : Sightings) (ring : RingState) (member
 pub record KeepsPacked (begin : ℕ) (new : Sightings) (ring : RingState) (members : List ℕ) : Type 0 where
   pub each : All (λ i. (k : ℕ) → begin ≤ k → k ≤ new.now
       → IsOneDescriptor (new.at k) (memory new) (descriptor_addr ring.setup.desc i)) members
-
--- the byte at an address was seen the same from one access to another
-abbrev pub IsSteady : Sightings → Sightings → ℕ → Type 0
-IsSteady old new addr = (k : ℕ) → old.now ≤ k → k ≤ new.now → part_of (new.at k) addr 1 ≡ part_of (memory old) addr 1
 
 -- ---- a chain, and what one memory says of it
 

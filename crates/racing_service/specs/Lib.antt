@@ -1,6 +1,4 @@
 pub mod Queue
-pub mod Device
-pub mod Storing
 pub mod Service
 pub mod Sink
 pub mod Laws

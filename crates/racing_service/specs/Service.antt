@@ -17,7 +17,7 @@ use Rattle.racing_service.specs.declared.stage.Stage.TheVariants.{First, Next, A
 use Rattle.racing_service.specs.declared.service.Stop.{Stop}
 use Rattle.racing_service.specs.declared.service.Stop.TheVariants.{Idle, Dry, Paused, Broken}
 use Rattle.racing_service.specs.Queue.{RacingKind}
-use Rattle.racing_service.specs.Device.{DoesRaced, RefusesRaced}
+use Rattle.chain_handler.specs.Device.{DoesRaced, RefusesRaced}
 
 -- where a service stands: what the memory was seen as, the ring, the device's state, and what is left of the budget
 pub record Standing (Ring State : Type 0) : Type 0 where

@@ -1,6 +1,6 @@
 //! Laws of the definitions. The bodies are empty: each contract is a theorem.
 
-ghost use Rattle.std.specs.Prelude.{◌≡◌, ◌<◌, ◌-◌, ◌++◌, ◌^◌, ℕ, All, Bool, List, [], ◌∷◌, None, Option, Some, false, length, map, replicate, take, true};
+ghost use Rattle.std.specs.Prelude.{◌≡◌, ◌<◌, ◌++◌, ℕ, All, Bool, List, [], ◌∷◌, false, length, true};
 ghost use Rattle.chain.specs.declared.fault.Fault.{Fault};
 ghost use Rattle.chain.specs.declared.state.RingState.{RingState};
 ghost use Rattle.chain.specs.declared.segment.Buffer.{Buffer};
@@ -10,7 +10,7 @@ ghost use Rattle.split_ring.specs.Ring.{LiesIn};
 ghost use Rattle.split_ring.specs.Kind.{split_kind};
 ghost use Rattle.packed_ring.specs.Kind.{packed_kind};
 ghost use Rattle.packed_ring.specs.Ring.{head_of, next_wrap};
-ghost use Rattle.shared_memory.specs.Sightings.{Sightings, Stores, memory};
+ghost use Rattle.shared_memory.specs.Sightings.{Sightings, memory};
 ghost use Rattle.racing_ring.specs.Packed as packed;
 ghost use Rattle.racing_ring.specs.Split as split;
 ghost use Rattle.racing_service.specs.declared.service.Ending.{Ending};
@@ -19,17 +19,15 @@ ghost use Rattle.racing_service.specs.declared.stage.Stage.{Stage};
 ghost use Rattle.racing_service.specs.declared.stage.Stage.TheVariants.{First};
 ghost use Rattle.racing_service.specs.Queue.{racing_packed, racing_split};
 ghost use Rattle.racing_service.specs.Service.{AreRounds, IsClosing, IsRacingService, IsRound, IsSettled, LeavesOne, Met, Round, RunsUpTo, Standing};
-ghost use Rattle.racing_service.specs.Device.{StoresAtOnce};
-ghost use Rattle.racing_service.specs.Storing.{StoresEach, StoresSome};
 ghost use Rattle.racing_service.specs.LeftAlone.{IsLeftAlone, IsLeftAtOnce, IsServedAtOnce, KeepsPacked, KeepsSplit, LeavesAlone, LeavesPacked, LeavesSplit, chains_of};
 ghost use Rattle.racing_service.specs.Laws.{AreServices, SeesNoHead, SeesNoList, site_of};
 
-use crate::handler::RacingHandler;
+use chain_handler::ChainHandler;
 
 /// A guest that stands still, and its split ring: each round is one service of `split_kind`, whether it ends with no chain
 /// on offer or by a fault, and the look that settles the service changes nothing. So a settled service of one round is one
 /// service.
-pub fn a_split_ring_that_stands_still_is_served_by_services<B, D: RacingHandler<B>>()
+pub fn a_split_ring_that_stands_still_is_served_by_services<B, D: ChainHandler<B>>()
     ensures rounds { (setup : D.Setup) (rounds : List (Round RingState D.State)) (a b : Standing RingState D.State)
         → LiesIn (memory a.sightings) a.ring.setup → 0 < a.ring.setup.size
         → AreRounds racing_split (D.device setup) false First a rounds b
@@ -55,7 +53,7 @@ pub fn a_split_ring_that_stands_still_is_served_by_services<B, D: RacingHandler<
 {}
 
 /// The same of a packed ring.
-pub fn a_packed_ring_that_stands_still_is_served_by_services<B, D: RacingHandler<B>>()
+pub fn a_packed_ring_that_stands_still_is_served_by_services<B, D: ChainHandler<B>>()
     ensures rounds { (setup : D.Setup) (rounds : List (Round RingState D.State)) (a b : Standing RingState D.State)
         → 0 < a.ring.setup.size → AreRounds racing_packed (D.device setup) false First a rounds b
         → AreServices packed_kind (D.device setup) (site_of a) rounds (site_of b) }
@@ -81,7 +79,7 @@ pub fn a_packed_ring_that_stands_still_is_served_by_services<B, D: RacingHandler
 /// A settled service saw behind its closing writes that nothing more was on offer, where its device takes a chain. Of a split
 /// ring: the available idx was the place of the next chain. Of a packed ring, unless all its places are in flight: the next
 /// descriptor wasn't available.
-pub fn a_settled_service_saw_nothing_more_on_offer<B, D: RacingHandler<B>>()
+pub fn a_settled_service_saw_nothing_more_on_offer<B, D: ChainHandler<B>>()
     ensures split { (setup : D.Setup) (races wanted : Bool) (stage : Stage) (rounds : List (Round RingState D.State))
         (at b : Standing RingState D.State) → IsSettled racing_split (D.device setup) races stage rounds at b wanted
         → (D.device setup).takes at.state ≡ true → SeesNoHead at.sightings b.sightings at.ring }
@@ -90,29 +88,11 @@ pub fn a_settled_service_saw_nothing_more_on_offer<B, D: RacingHandler<B>>()
         → (D.device setup).takes at.state ≡ true → at.ring.ahead < at.ring.setup.size → SeesNoList at.sightings b.sightings at.ring }
 {}
 
-/// A row of bytes is stored in parts, as `DoesRaced` asks of a device: of whatever places it is, and whatever is stored behind
-/// it. `first` is the whole of a device that fills the first places and writes no others.
-pub fn a_row_of_bytes_is_stored_in_parts()
-    ensures byte { (races : Bool) (old new : Sightings) (addr byte : ℕ) → byte < 2 ^ 8 → Stores races old new addr 1 byte
-        → StoresAtOnce races old new (addr ∷ []) (Some byte ∷ []) }
-    ensures joined { (races : Bool) (old mid new : Sightings) (addrs bytes more others : List ℕ)
-        → StoresEach races old mid addrs bytes → StoresEach races mid new more others
-        → StoresEach races old new (addrs ++ more) (bytes ++ others) }
-    ensures once { (races : Bool) (old new : Sightings) (addrs : List ℕ) (written : List (Option ℕ))
-        → StoresAtOnce races old new addrs written → StoresSome races old new addrs written }
-    ensures behind { (races : Bool) (old mid new : Sightings) (addrs bytes more : List ℕ) (written : List (Option ℕ))
-        → StoresEach races old mid addrs bytes → StoresSome races mid new more written
-        → StoresSome races old new (addrs ++ more) (map Some bytes ++ written) }
-    ensures first { (races : Bool) (old new : Sightings) (addrs bytes : List ℕ)
-        → StoresEach races old new (take (length bytes) addrs) bytes
-        → StoresSome races old new addrs (map Some bytes ++ replicate (length addrs - length bytes) None) }
-{}
-
 /// A driver that leaves a chain alone while it is taken: its head and its descriptors, and its readable bytes while the device
 /// reads them. Then the memory as it was seen once the chain was taken offers it, and its device did what it does with that chain
 /// in that memory, whatever else the guest writes meanwhile. So each chain of a service is served as that of a guest which stands
 /// still.
-pub fn a_chain_that_is_left_alone_is_served_at_one_moment<B, D: RacingHandler<B>>()
+pub fn a_chain_that_is_left_alone_is_served_at_one_moment<B, D: ChainHandler<B>>()
     ensures split { (setup : D.Setup) (races : Bool) (stage : Stage) (most : ℕ) (ending : Ending) (wanted : Bool)
         (a b : Standing RingState D.State)
         (service : IsRacingService racing_split (D.device setup) races stage most a b ending wanted)
@@ -130,7 +110,7 @@ pub fn a_chain_that_is_left_alone_is_served_at_one_moment<B, D: RacingHandler<B>
 {}
 
 /// The same of a chain that its device leaves on offer: by the bytes of that memory it has the reason for which it leaves it.
-pub fn a_chain_that_is_left_alone_is_left_at_one_moment<B, D: RacingHandler<B>>()
+pub fn a_chain_that_is_left_alone_is_left_at_one_moment<B, D: ChainHandler<B>>()
     ensures split { (setup : D.Setup) (backend : B) (races : Bool) (buffers : List Buffer) (entry : Entry) (why : D.Refusal)
         (a b : Standing RingState D.State)
         (left : LeavesOne racing_split (D.device setup) races (D.Refuses setup backend) buffers entry why a b)

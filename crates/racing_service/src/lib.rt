@@ -5,19 +5,16 @@
 #![tactic(auto)]
 
 mod flight;
-mod handler;
 mod laws;
 mod service;
 mod sink;
 mod stage;
-mod storing;
 
 pub use flight::KeepsFlights;
-pub use handler::RacingHandler;
 pub use laws::{
     a_chain_that_is_left_alone_is_left_at_one_moment,
     a_chain_that_is_left_alone_is_served_at_one_moment,
-    a_packed_ring_that_stands_still_is_served_by_services, a_row_of_bytes_is_stored_in_parts,
+    a_packed_ring_that_stands_still_is_served_by_services,
     a_settled_service_saw_nothing_more_on_offer,
     a_split_ring_that_stands_still_is_served_by_services, what_is_seen_the_same_is_left_alone,
 };
@@ -25,4 +22,3 @@ pub use racing_ring::RacingQueue;
 pub use service::{Ending, Limits, Outcome, Refused, serve};
 pub use sink::Sink;
 pub use stage::Stage;
-pub use storing::store_in_chain;

@@ -5,9 +5,9 @@ ghost use Rattle.chain.specs.Buffers.{Good};
 ghost use Rattle.shared_memory.specs.Sightings.{memory};
 ghost use Rattle.racing_service.specs.Service.{IsRacingService, IsRefusedService, RunsAs, RunsUpTo, ServesAs, ServesUpTo, ending_of, progress_of, standing_at};
 
-use crate::handler::RacingHandler;
 use crate::stage::Stage;
 use chain::{Budget, Chain, Fault, Progress};
+use chain_handler::ChainHandler;
 use racing_ring::{RacingQueue, Room};
 use shared_memory::Shared;
 
@@ -90,7 +90,7 @@ pub struct Refused<T, E> {
 
 /// Serves a queue from this stage on, until a look behind its closing writes finds nothing new, a fault ends the service, a limit
 /// is met, or the device leaves a chain on offer: then `chain` has its buffers.
-pub fn serve<B, D: RacingHandler<B>, Q: RacingQueue, M: Shared>(
+pub fn serve<B, D: ChainHandler<B>, Q: RacingQueue, M: Shared>(
     device: &mut D,
     backend: &mut B,
     mem: &mut M,
@@ -176,7 +176,7 @@ fn ending_of(stop: Stop) -> Option<Ending>
 }
 
 /// A round up to its closing: opens the queue, unless it stands open, and serves chains.
-fn run<B, D: RacingHandler<B>, Q: RacingQueue, M: Shared>(
+fn run<B, D: ChainHandler<B>, Q: RacingQueue, M: Shared>(
     device: &mut D,
     backend: &mut B,
     mem: &mut M,
@@ -208,7 +208,7 @@ fn run<B, D: RacingHandler<B>, Q: RacingQueue, M: Shared>(
 }
 
 /// Serves chains until none is on offer or wanted, one has a fault, or the budget is spent.
-fn serve_chains<B, D: RacingHandler<B>, Q: RacingQueue, M: Shared>(
+fn serve_chains<B, D: ChainHandler<B>, Q: RacingQueue, M: Shared>(
     device: &mut D,
     backend: &mut B,
     mem: &mut M,

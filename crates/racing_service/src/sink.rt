@@ -1,14 +1,14 @@
 //! The smallest device.
 
-use crate::handler::RacingHandler;
 use chain::{Chain, Used};
+use chain_handler::ChainHandler;
 use shared_memory::Shared;
 
 /// A device that takes each chain and writes nothing, as that of a queue whose host discards what it is sent.
 #[derive(Clone, Copy)]
 pub struct Sink;
 
-impl RacingHandler<()> for Sink {
+impl ChainHandler<()> for Sink {
     ghost use Rattle.racing_service.specs.Sink.{sink};
 
     type Refusal = ();

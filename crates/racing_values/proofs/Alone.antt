@@ -16,7 +16,7 @@ use Rattle.racing_memory.proofs.Undisturbed.{may_stand, seen_as_it_stood}
 use Rattle.racing_ring.specs.Source.{Source}
 use Rattle.racing_ring.specs.Packed.{IsOffered, IsPublished, read_entry, read_table}
 use Rattle.racing_ring.proofs.Publishing.{published_offered}
-use Rattle.racing_service.specs.LeftAlone.{IsSteady}
+use Rattle.shared_memory.specs.Bytes.{IsSteady}
 use Rattle.racing_values.specs.Alone.{all_read, buffers, entry, header, list_read, regions, ring, seen_by, stood}
 
 -- ---- what stands there

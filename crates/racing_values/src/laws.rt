@@ -6,7 +6,7 @@ ghost use Rattle.packed_ring.specs.Kind.{packed_kind};
 ghost use Rattle.packed_ring.specs.Ring.{head_of, next_wrap};
 ghost use Rattle.shared_memory.specs.Sightings.{memory};
 ghost use Rattle.racing_ring.specs.Packed.{IsOffered, IsPublished};
-ghost use Rattle.racing_service.specs.LeftAlone.{IsSteady};
+ghost use Rattle.shared_memory.specs.Bytes.{IsSteady};
 ghost use Rattle.racing_values.specs.Alone.{all_read, buffers, entry, header, list_read, ring, seen_by};
 
 /// A list whose driver left it alone before the call saw it is published (`a_list_that_is_published_meanwhile_is_taken_as_it_stands`

@@ -24,11 +24,11 @@ ghost use Rattle.racing_window.specs.Laws.{LeavesQueue, size_of};
 ghost use Rattle.racing_window.specs.Queue.{racing_queue};
 ghost use Rattle.racing_window.specs.Serving.{ServesQueue};
 
-use racing_service::RacingHandler;
+use chain_handler::ChainHandler;
 
 /// A guest that stands still: each round of a queue is one service of `queue_kind`, whether it ends with no chain on offer or
 /// by a fault, and the look that settles the service changes nothing.
-pub fn a_queue_that_stands_still_is_served_by_services<B, D: RacingHandler<B>>()
+pub fn a_queue_that_stands_still_is_served_by_services<B, D: ChainHandler<B>>()
     ensures rounds { (setup : D.Setup) (rounds : List (Round Queue D.State)) (a b : Standing Queue D.State)
         → LiesIn (memory a.sightings) a.ring → 0 < size_of a.ring
         → AreRounds racing_queue (D.device setup) false First a rounds b
@@ -44,7 +44,7 @@ pub fn a_queue_that_stands_still_is_served_by_services<B, D: RacingHandler<B>>()
 
 /// A guest that stands still, and a sound window: a service of one round is what `mmio_window` says of one, with the same memory,
 /// registers and interrupts. It ends settled (`settled`), or by a fault of its first round (`broken`).
-pub fn a_window_that_stands_still_is_served_once<B, D: RacingHandler<B>>()
+pub fn a_window_that_stands_still_is_served_once<B, D: ChainHandler<B>>()
     ensures settled { (setup : D.Setup) (most q : ℕ) (budget : Budget) (queue : Queue) (progress : Progress) (old new : Sightings)
         (before after : WindowState) (s s' : D.State) (r : Round Queue D.State)
         (serves : ServesQueue (D.device setup) false most q budget queue progress old new before after s s')
@@ -61,7 +61,7 @@ pub fn a_window_that_stands_still_is_served_once<B, D: RacingHandler<B>>()
 
 /// A driver that leaves each chain of a queue alone while it is taken, whatever else its guest writes: each chain is served, or left
 /// on offer, as that of a guest which stands still, in the memory as it was seen once the chain was taken.
-pub fn a_chain_that_is_left_alone_is_of_one_moment<B, D: RacingHandler<B>>()
+pub fn a_chain_that_is_left_alone_is_of_one_moment<B, D: ChainHandler<B>>()
     ensures served { (setup : D.Setup) (races : Bool) (stage : Stage) (most : ℕ) (ending : Ending) (wanted : Bool)
         (a b : Standing Queue D.State)
         (service : IsRacingService racing_queue (D.device setup) races stage most a b ending wanted)

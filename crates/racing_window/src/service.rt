@@ -12,15 +12,16 @@ ghost use Rattle.racing_window.specs.Serving.{IsLeft, Notified, fault_of, met_at
 
 use crate::ring::RacingRing;
 use chain::{Chain, Fault, Progress};
+use chain_handler::ChainHandler;
 use mmio_window::{Left, Queue, QueueFault, Token, Window, show};
 use racing_ring::Room;
-use racing_service::{Ending, Limits, Outcome, RacingHandler, Refused, Stage, serve};
+use racing_service::{Ending, Limits, Outcome, Refused, Stage, serve};
 use shared_memory::Shared;
 
 /// Serves the queue of this number once, if the window is live and the queue ready, and has the window show what came of it: a
 /// used buffer where the driver wants to be told of one, and after a fault that a reset is needed. Where the device leaves a
 /// chain on offer, `chain` has its buffers, the queue stands open at it, and the window shows nothing.
-pub fn serve_queue<B, D: RacingHandler<B>, M: Shared>(
+pub fn serve_queue<B, D: ChainHandler<B>, M: Shared>(
     window: &mut Window,
     q: u16,
     device: &mut D,

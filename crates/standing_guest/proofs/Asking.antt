@@ -22,7 +22,7 @@ use Rattle.block_device.specs.Hosting.{hosted_device, wants_stable}
 use Rattle.racing_service.specs.declared.stage.Stage.{Stage as RacingStage}
 use Rattle.racing_service.specs.Laws.{site_of}
 use Rattle.racing_service.specs.Service.{IsRefusedService, LeavesOne, RunsUpTo}
-use Rattle.racing_service.proofs.Standing.{one_still}
+use Rattle.chain_handler.proofs.Still.{one_still}
 use Rattle.racing_disk.specs.Looking.{FindsOneToAnswer}
 use Rattle.racing_disk.specs.Telling.{IsLeft}
 use Rattle.racing_window.specs.Queue.{racing_queue}

@@ -16,7 +16,7 @@ use Rattle.racing_service.specs.Laws.{site_of}
 use Rattle.racing_service.specs.Service.{AreRounds, Drained, EndsBy, FindsFault, IsBusyRound, IsLook, IsOpened, IsRacingService, IsRound, Met, OnlyLoads, Round, ServesOne, ServesSome, Standing, Works, progress_of}
 use Rattle.racing_service.proofs.Coming.{busy_is_round}
 use Rattle.racing_service.proofs.Rounds.{again_is_first, one_service, settled_there}
-use Rattle.racing_service.proofs.Standing.{one_still}
+use Rattle.chain_handler.proofs.Still.{one_still}
 use Rattle.racing_window.specs.Queue.{racing_queue}
 use Rattle.racing_window.specs.Serving.{fault_of}
 use Rattle.racing_window.proofs.Rings.{IsQueueSound, queue_stands_still}

@@ -2,9 +2,9 @@
 
 use crate::tests::meddled::Meddled;
 use chain::Chain;
+use chain_handler::ChainHandler;
 use racing_console::RacingTransmit;
 use racing_memory::{RacingMemory, RacingRegion};
-use racing_service::RacingHandler;
 use shared_memory::Shared;
 use std::alloc::Allocator;
 use std::sync::atomic::AtomicU64;

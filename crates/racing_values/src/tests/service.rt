@@ -2,10 +2,11 @@
 
 ghost use Rattle.shared_memory.specs.Sightings.{memory};
 
-use chain::{Budget, Chain, Runs, Setup};
+use chain::{Budget, Chain, Setup};
+use chain_handler::store_in_chain;
 use guest_memory::GuestMemory;
 use racing_ring::{RacingPackedRing, RacingSplitRing, Room};
-use racing_service::{Ending, Limits, Outcome, RacingQueue, Sink, Stage, serve, store_in_chain};
+use racing_service::{Ending, Limits, Outcome, RacingQueue, Sink, Stage, serve};
 use shared_memory::Shared;
 use std::alloc::Allocator;
 use std::test::*;
@@ -150,7 +151,7 @@ fn row_stored<M: Shared>(mem: &mut M) -> Option<()> {
     if chain.writable_len() < 4 {
         return None;
     }
-    store_in_chain(mem, &chain, 1, &[0x11, 0x22, 0x33], &mut Runs::new());
+    store_in_chain(mem, &chain, 1, &[0x11, 0x22, 0x33]);
     Some(())
 }
 

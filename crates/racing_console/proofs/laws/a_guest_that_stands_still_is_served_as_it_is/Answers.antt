@@ -1,5 +1,5 @@
 use Rattle.console_device.specs.Device.{receive, transmit_within}
-use Rattle.racing_service.proofs.Standing.{does_still}
+use Rattle.chain_handler.proofs.Still.{does_still}
 use Rattle.racing_console.proofs.Standing.{refused_still}
 use Rattle.racing_console.proofs.laws.a_guest_that_stands_still_is_served_as_it_is.Goals as goal
 

@@ -1,5 +1,5 @@
 use Rattle.std.proofs.Common.{length}
-use Rattle.racing_console.proofs.PuttingOut.{copy_out}
+use Rattle.chain_handler.proofs.Doing.{copy_out}
 use Rattle.racing_console.proofs.putting.put_copy.Goals as goal
 
 pub returns-clause-put : goal.returns-clause-put

@@ -3,10 +3,10 @@ use Rattle.racing_service.proofs.laws.a_chain_that_is_left_alone_is_left_at_one_
 
 pub returns-clause-split : goal.returns-clause-split
 returns-clause-split g c = λ setup backend races buffers entry why a b left alone.
-    left_at_once split_left (g.D.RacingHandler.device setup) races (g.D.RacingHandler.Refuses setup backend) buffers entry why a b
+    left_at_once split_left (g.D.ChainHandler.device setup) races (g.D.ChainHandler.Refuses setup backend) buffers entry why a b
     left alone
 
 pub returns-clause-packed : goal.returns-clause-packed
 returns-clause-packed g c = λ setup backend races buffers entry why a b left alone.
-    left_at_once packed_left (g.D.RacingHandler.device setup) races (g.D.RacingHandler.Refuses setup backend) buffers entry why a b
+    left_at_once packed_left (g.D.ChainHandler.device setup) races (g.D.ChainHandler.Refuses setup backend) buffers entry why a b
     left alone

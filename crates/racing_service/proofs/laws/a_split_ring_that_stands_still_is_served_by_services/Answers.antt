@@ -7,22 +7,22 @@ use Rattle.racing_service.proofs.laws.a_split_ring_that_stands_still_is_served_b
 
 pub returns-clause-rounds : goal.returns-clause-rounds
 returns-clause-rounds g c = λ setup rounds a b lies some r.
-    (all_services split_stands_still (g.D.RacingHandler.device setup) rounds a b (record { lies = lies; some = some }) r).services
+    (all_services split_stands_still (g.D.ChainHandler.device setup) rounds a b (record { lies = lies; some = some }) r).services
 
 pub returns-clause-broken : goal.returns-clause-broken
 returns-clause-broken g c = λ setup fault wanted a b lies some r.
-    (one_service split_stands_still (g.D.RacingHandler.device setup) (Met fault) (Faulted fault) a b wanted refl
+    (one_service split_stands_still (g.D.ChainHandler.device setup) (Met fault) (Faulted fault) a b wanted refl
     (record { lies = lies; some = some }) r).service
 
 pub returns-clause-left : goal.returns-clause-left
 returns-clause-left g c = λ setup backend buffers entry why wanted a at b lies some lacks r closing.
-    left_service split_stands_still (g.D.RacingHandler.device setup) (g.D.RacingHandler.Refuses setup backend) buffers entry why
+    left_service split_stands_still (g.D.ChainHandler.device setup) (g.D.ChainHandler.Refuses setup backend) buffers entry why
     lacks a at b wanted (record { lies = lies; some = some }) r closing
 
 pub returns-clause-look : goal.returns-clause-look
 returns-clause-look g c = λ setup rounds wanted a at b r s.
-    settled_there split_stands_still (g.D.RacingHandler.device setup) rounds a at b wanted r s
+    settled_there split_stands_still (g.D.ChainHandler.device setup) rounds a at b wanted r s
 
 pub returns-clause-one : goal.returns-clause-one
 returns-clause-one g c = λ setup most wanted a b r service lies some only.
-    one_settled split_stands_still (g.D.RacingHandler.device setup) most a b wanted r service (record { lies = lies; some = some }) only
+    one_settled split_stands_still (g.D.ChainHandler.device setup) most a b wanted r service (record { lies = lies; some = some }) only

@@ -44,5 +44,5 @@ pub returns-in-Err-clause-refuses : goal.returns-in-Err-clause-refuses
 returns-in-Err-clause-refuses g c =
     let v = c.loop.invariant in
     service_left _ _ _ c.args.stage c.loop.here _ _ c.loop.counter _ v.service c.args.limits.rounds _
-    (g.D.RacingHandler.Refuses (g.D.RacingHandler.setup c.args.device.now c.args.backend.now) c.run.new.backend) _ _ _
+    (g.D.ChainHandler.Refuses (g.D.ChainHandler.setup c.args.device.now c.args.backend.now) c.run.new.backend) _ _ _
     (omega (arith, c.loop-test.true)) (rw v.setup at c.in-Err.ensures.leaves)

@@ -2,7 +2,7 @@ use Rattle.std.proofs.Common.{◌∙◌, sym}
 use Rattle.chain.proofs.Budgets.{some_left}
 use Rattle.shared_memory.specs.Sightings.{memory}
 use Rattle.shared_memory.proofs.Sightings.{loads_range}
-use Rattle.racing_service.proofs.Standing.{does_range, good_same}
+use Rattle.chain_handler.proofs.Still.{does_range, good_same}
 use Rattle.racing_service.proofs.Coming.{broken, left_there, not_offered, one_more, paused, unwanted}
 use Rattle.racing_service.proofs.service.serve_chains.Goals as goal
 
@@ -56,7 +56,7 @@ pub returns-in-Err-serve-clause-leaves : goal.returns-in-Err-serve-clause-leaves
 returns-in-Err-serve-clause-leaves g c =
     let same = c.loop-queue.invariant.setup in
     left_there _ _ _ _ _ _ _ _ _ c.loop-queue.invariant.round _ _ _ _ _ _ _
-    (g.D.RacingHandler.Refuses (g.D.RacingHandler.setup c.args.device.now c.args.backend.now) c.serve.new.backend)
+    (g.D.ChainHandler.Refuses (g.D.ChainHandler.setup c.args.device.now c.args.backend.now) c.serve.new.backend)
     c.in-Err-serve.why
     (rw (← same) (sym c.takes.ensures ∙ c.loop-queue-test.true))
     (some_left c.loop-queue.left c.is_spent.result c.is_spent.ensures c.if-is_spent.false) c.spend.ensures

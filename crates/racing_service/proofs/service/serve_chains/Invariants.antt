@@ -6,12 +6,12 @@ use Rattle.racing_service.proofs.service.serve_chains.Given as goal
 
 abbrev pub invariant-loop-queue : goal.invariant-loop-queue
 invariant-loop-queue g l = record {
-  round : IsInRound g.Q.RacingQueue.kind (g.D.RacingHandler.device (g.D.RacingHandler.setup l.fn.device l.fn.backend))
+  round : IsInRound g.Q.RacingQueue.kind (g.D.ChainHandler.device (g.D.ChainHandler.setup l.fn.device l.fn.backend))
       g.M.Shared.races
-      (standing_at (g.M.Shared.sightings l.fn.mem) l.fn.queue (g.D.RacingHandler.state l.fn.device l.fn.backend) l.fn.left)
-      (standing_at (g.M.Shared.sightings l.mem) l.queue (g.D.RacingHandler.state l.device l.backend) l.left) l.some;
-  setup : g.D.RacingHandler.setup l.device l.backend ≡ g.D.RacingHandler.setup l.fn.device l.fn.backend;
-  ready : g.D.RacingHandler.IsReady l.device l.backend;
+      (standing_at (g.M.Shared.sightings l.fn.mem) l.fn.queue (g.D.ChainHandler.state l.fn.device l.fn.backend) l.fn.left)
+      (standing_at (g.M.Shared.sightings l.mem) l.queue (g.D.ChainHandler.state l.device l.backend) l.left) l.some;
+  setup : g.D.ChainHandler.setup l.device l.backend ≡ g.D.ChainHandler.setup l.fn.device l.fn.backend;
+  ready : g.D.ChainHandler.IsReady l.device l.backend;
   lies : g.Q.RacingQueue.LiesIn (memory (g.M.Shared.sightings l.mem)) l.queue;
 }
 

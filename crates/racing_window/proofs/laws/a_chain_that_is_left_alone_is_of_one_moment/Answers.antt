@@ -6,10 +6,10 @@ use Rattle.racing_window.proofs.laws.a_chain_that_is_left_alone_is_of_one_moment
 
 pub returns-clause-served : goal.returns-clause-served
 returns-clause-served g c = λ setup races stage most ending wanted a b service alone.
-    let device = g.D.RacingHandler.device setup in
+    let device = g.D.ChainHandler.device setup in
     all_at_once queue_left device races (chains_of racing_queue device races stage most a b ending wanted service) alone
 
 pub returns-clause-left : goal.returns-clause-left
 returns-clause-left g c = λ setup backend races buffers entry why a b left alone.
-    left_at_once queue_left (g.D.RacingHandler.device setup) races (g.D.RacingHandler.Refuses setup backend) buffers entry why a b
+    left_at_once queue_left (g.D.ChainHandler.device setup) races (g.D.ChainHandler.Refuses setup backend) buffers entry why a b
     left alone

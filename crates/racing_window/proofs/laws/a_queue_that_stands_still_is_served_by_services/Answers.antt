@@ -9,14 +9,14 @@ use Rattle.racing_window.proofs.laws.a_queue_that_stands_still_is_served_by_serv
 
 pub returns-clause-rounds : goal.returns-clause-rounds
 returns-clause-rounds g c = λ setup rounds a b lies some r.
-    (all_services queue_stands_still (g.D.RacingHandler.device setup) rounds a b
+    (all_services queue_stands_still (g.D.ChainHandler.device setup) rounds a b
     (is_sound (memory a.sightings) a.ring lies some) r).services
 
 pub returns-clause-broken : goal.returns-clause-broken
 returns-clause-broken g c = λ setup fault wanted a b lies some r.
-    (one_service queue_stands_still (g.D.RacingHandler.device setup) (Met fault) (Faulted fault) a b wanted refl
+    (one_service queue_stands_still (g.D.ChainHandler.device setup) (Met fault) (Faulted fault) a b wanted refl
     (is_sound (memory a.sightings) a.ring lies some) r).service
 
 pub returns-clause-look : goal.returns-clause-look
 returns-clause-look g c = λ setup rounds wanted a at b r s.
-    settled_there queue_stands_still (g.D.RacingHandler.device setup) rounds a at b wanted r s
+    settled_there queue_stands_still (g.D.ChainHandler.device setup) rounds a at b wanted r s

@@ -1,5 +1,5 @@
 use Rattle.std.proofs.Common.{◌∙◌, true, arith}
-use Rattle.racing_service.proofs.Rows.{few_places}
+use Rattle.chain_handler.proofs.Rows.{few_places}
 use Rattle.racing_disk.proofs.Telling.{left_inside, places_left, runs_are}
 use Rattle.racing_disk.proofs.disk.RacingDisk.launch.Goals as goal
 

@@ -13,7 +13,7 @@ pub returns-in-Known-clause-judged : goal.returns-in-Known-clause-judged
 returns-in-Known-clause-judged g c =
     known_judged c.args.self.now.device g.M.Shared.races (g.M.Shared.sightings c.args.mem.now)
     (g.M.Shared.sightings c.read_header-header.new.mem) c.args.chain.now c.args.room c.readable_len-readable.result
-    c.read_header-header.result.kind c.read_header-header.result.sector c.in-Known.request c.read_header-header.new.room c.requires.good
+    c.read_header-header.result.kind c.read_header-header.result.sector c.in-Known.request c.args.runs.now c.requires.good
     c.read_header-header.ensures.loads (sym c.readable_len-readable.ensures.value) c.if-readable-lt-HEADER_LEN.false
     c.read_header-header.ensures.header c.in-Known.ensures
 
