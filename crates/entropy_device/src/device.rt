@@ -1,14 +1,15 @@
 //! The device: a pool of random bytes.
 
 ghost use Rattle.std.specs.Prelude.{◌≡◌, ◌≤◌, ◌==◌, [], length, take, drop};
-ghost use Rattle.guest_memory.specs.Memory.{SameRange};
 ghost use Rattle.chain.specs.Buffers.{Good};
-ghost use Rattle.chain.specs.Bytes.{scatter, writable_of};
+ghost use Rattle.chain.specs.Bytes.{writable_of};
+ghost use Rattle.shared_memory.specs.Bytes.{StoresEach};
+ghost use Rattle.shared_memory.specs.Sightings.{memory};
 ghost use Rattle.entropy_device.specs.Pool.{fitting, supplied};
 
 use chain::Chain;
-use guest_memory::GuestMemory;
-use std::alloc::Allocator;
+use chain_handler::store_in_chain;
+use shared_memory::Shared;
 use std::marker::Model;
 
 /// How many bytes the pool holds.
@@ -85,18 +86,17 @@ impl EntropyDevice {
 
     /// Moves the first bytes of the pool into the first places of a chain's writable list, as many as both have, and
     /// answers how many they are.
-    pub(crate) fn fill<M: Allocator>(&mut self, mem: &mut GuestMemory<M>, chain: &Chain) -> usize
-        requires { Good mem.old chain.now }
+    pub(crate) fn fill<M: Shared>(&mut self, mem: &mut M, chain: &Chain) -> usize
+        requires { Good (memory (M.sightings mem.old)) chain.now }
         ensures count { result ≡ length (take (length (writable_of chain.now)) self.old) }
         ensures few { result ≤ 4096 }
-        ensures written { mem.new ≡ scatter mem.old (writable_of chain.now)
-            (take (length (writable_of chain.now)) self.old) }
+        ensures stored { StoresEach M.races (M.sightings mem.old) (M.sightings mem.new)
+            (take result (writable_of chain.now)) (take (length (writable_of chain.now)) self.old) }
         ensures left { self.new ≡ drop (length (writable_of chain.now)) self.old }
-        ensures range { SameRange mem.old mem.new }
     {
-        let room = chain.writable_len() as usize;
-        let count = self.len().min(room);
-        chain.write_at(mem, 0, &self.waiting()[..count]);
+        let places = chain.writable_len() as usize;
+        let count = self.len().min(places);
+        store_in_chain(mem, chain, 0, &self.waiting()[..count]);
         self.skip(count);
         count
     }

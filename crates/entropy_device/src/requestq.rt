@@ -1,16 +1,15 @@
 //! The requestq's handler: it serves chains over the pool.
 
 use crate::device::EntropyDevice;
-use chain::Chain;
-use guest_memory::GuestMemory;
-use mmio_window::{QueueHandler, Used};
-use std::alloc::Allocator;
+use chain::{Chain, Used};
+use chain_handler::ChainHandler;
+use shared_memory::Shared;
 
 /// Puts the pool's bytes into chains. It refuses none.
 #[derive(Drop)]
 pub(crate) struct Requestq;
 
-impl QueueHandler<EntropyDevice> for Requestq {
+impl ChainHandler<EntropyDevice> for Requestq {
     type Refusal = ();
 
     ghost use Rattle.std.specs.Prelude.{ℕ, List};
@@ -26,19 +25,17 @@ impl QueueHandler<EntropyDevice> for Requestq {
 
     ghost device = { λ fixed. entropy };
 
-    ghost Refuses = { λ fixed left pool memory buffers why. ⊥ };
+    ghost Refuses = { λ fixed left pool readable buffers why. ⊥ };
 
     ghost IsReady = { λ here pool. Unit {0} };
-
-    ghost Keeps = { λ here pool there later. Unit {0} };
 
     fn takes(&self, pool: &EntropyDevice) -> bool {
         !pool.is_empty()
     }
 
-    fn serve<M: Allocator>(
+    fn serve<M: Shared>(
         &mut self,
-        mem: &mut GuestMemory<M>,
+        mem: &mut M,
         chain: &Chain,
         pool: &mut EntropyDevice,
     ) -> Result<Used, ()> {

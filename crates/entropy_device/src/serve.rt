@@ -12,6 +12,7 @@ ghost use Rattle.entropy_device.specs.Waiting.{is_starved};
 use crate::device::EntropyDevice;
 use crate::requestq::Requestq;
 use chain::{Budget, Chain, Progress};
+use chain_handler::Standing;
 use guest_memory::GuestMemory;
 use mmio_window::{Stage, Window, serve_piece};
 use std::alloc::Allocator;
@@ -50,7 +51,7 @@ impl EntropyDevice {
         ensures range { SameRange mem.old mem.new }
         ensures sound { IsSound mem.new window.new }
     {
-        let device = &mut Requestq;
+        let device = &mut Standing(Requestq);
         match serve_piece(device, self, REQUESTQ, mem, window, stage, budget, room) {
             Ok(progress) => progress,
             Err(_) => unreachable!(),
