@@ -1,70 +1,109 @@
 -- A frame on its way from a chain to an outlet.
-use Rattle.std.proofs.Common.{◌≡◌, ℕ, zero, suc, ◌+◌, ◌-◌, ◌≤◌, ◌&&◌, nat_lt, arith, Bool, true, false, true≢false, Option, None, List, [], ◌∷◌, ◌++◌, length, take, drop, refl, sym, ap, ap₂, ◌∙◌, append_assoc, append-nil}
-use Rattle.std.proofs.lemmas.List.{drop-drop, drop_all, length-append, length-drop, length-replicate, length-take, take-append-drop}
-use Rattle.guest_memory.specs.Memory.{Memory}
+use Rattle.std.proofs.Common.{◌≡◌, ℕ, ◌+◌, ◌-◌, ◌≤◌, ◌&&◌, nat_lt, arith, Bool, true, false, true≢false, List, [], ◌∷◌, ◌++◌, length, take, drop, refl, sym, ap, ap₂, ◌∙◌}
+use Rattle.std.proofs.Math.Seq.{take-add}
+use Rattle.std.proofs.lemmas.Bool.{ltb-true}
+use Rattle.std.proofs.lemmas.List.{drop-drop, length-drop, length-take-le, take_all}
 use Rattle.chain.specs.declared.segment.Buffer.{Buffer}
-use Rattle.chain.specs.Bytes.{readable_of, writable_of}
-use Rattle.chain.specs.Service.{Does, used_len}
-use Rattle.chain.proofs.Partial.{unwritten, scattered-unwritten, wrote-unwritten}
+use Rattle.chain.specs.Buffers.{Good}
+use Rattle.chain.specs.Bytes.{addresses_of, len_of, readable_of}
+use Rattle.chain.proofs.Directions.{length-addresses_of}
 use Rattle.chain.proofs.Servicing.{both}
+use Rattle.chain_handler.specs.Output.{IsPutOut}
+use Rattle.chain_handler.proofs.Doing.{behind_is, out_more, reads, seen_behind, unread}
+use Rattle.shared_memory.specs.Sightings.{Sightings, Loads, memory}
+use Rattle.shared_memory.proofs.Sightings.{loads_none, loads_trans}
+use Rattle.chain_handler.specs.Device.{DoesRaced}
+use Rattle.chain_handler.proofs.Seeing.{bytes_count, writes_nothing}
 use Rattle.network_device.specs.declared.limits.Limits.{Limits}
 use Rattle.network_device.specs.Frames.{has_room}
 use Rattle.network_device.specs.Device.{counted, frame_of, is_sendable, passing, transmit}
+use Rattle.network_device.specs.Sending.{IsSent}
 use Rattle.network_device.proofs.Rooms.{and_true, room_alone, shorter}
 
--- The first bytes of the frame stand in the outlet, behind frames that stay.
-pub record IsPuttingOut (limits now : Limits) (frames waiting : List (List ℕ)) (list : List ℕ) (done : ℕ)
-    (begun : List ℕ) : Type 0 where
-  pub some : done ≤ length list
-  pub out : begun ++ drop done list ≡ frame_of list
+-- The first bytes of the frame went out, behind frames that stay.
+pub record IsPuttingOut (races : Bool) (old now : Sightings) (buffers : List Buffer) (limits then : Limits)
+    (frames waiting : List (List ℕ)) (done : ℕ) (begun : List ℕ) : Type 0 where
+  pub from : 12 ≤ done
+  pub to : done ≤ len_of false buffers
+  pub put : IsPutOut old now (take (done - 12) (drop 12 (addresses_of false buffers))) [] begun
+  pub loads : Loads races old now
   pub frames_stay : waiting ≡ frames
-  pub limits_stay : now ≡ limits
+  pub limits_stay : then ≡ limits
 
-module _ (limits now : Limits) (frames waiting : List (List ℕ)) (list : List ℕ) (done : ℕ) (begun : List ℕ)
-    (h : IsPuttingOut limits now frames waiting list done begun) where
+pub at_first : (races : Bool) (old : Sightings) (buffers : List Buffer) (limits : Limits) (frames : List (List ℕ)) (begun : List ℕ)
+    → 12 ≤ len_of false buffers → begun ≡ [] → IsPuttingOut races old old buffers limits limits frames frames 12 begun
+at_first races old buffers limits frames begun fits none = record {
+  from = omega arith;
+  to = fits;
+  put = record { bytes = []; seen = tt; out = none };
+  loads = loads_none races old;
+  frames_stay = refl;
+  limits_stay = refl;
+}
+
+module _ (races : Bool) (old now : Sightings) (buffers : List Buffer) (limits then : Limits) (frames waiting : List (List ℕ))
+    (done : ℕ) (begun : List ℕ) (h : IsPuttingOut races old now buffers limits then frames waiting done begun) where
+  -- as many as were read
+  pub begun_long : length begun ≡ done - 12
+  begun_long =
+      let addrs = addresses_of false buffers in
+      let l = length-addresses_of false buffers in
+      ap length h.put.out ∙ bytes_count old now (take (done - 12) (drop 12 addrs)) h.put.bytes h.put.seen
+      ∙ length-take-le (done - 12) (drop 12 addrs) (let d = length-drop 12 addrs in let f = h.from in let t = h.to in
+      omega (arith, d, l, f, t))
+
+  -- there is room for the next ones
+  pub next_fits : (n : ℕ) → done + n ≤ len_of false buffers → has_room limits frames (len_of false buffers - 12) ≡ true
+      → has_room then waiting (length begun + n) ≡ true
+  next_fits n fits room =
+      let f = h.from in
+      rw (h.frames_stay, h.limits_stay) (shorter limits frames (len_of false buffers - 12) (length begun + n) room
+      (omega (arith, begun_long, f, fits)))
+
+  -- and then they are out as well
+  pub put_out_more : (next : Sightings) (n : ℕ) (later : List ℕ) (then_waiting : List (List ℕ)) (then_limits : Limits)
+      → done + n ≤ len_of false buffers → IsPutOut now next (take n (drop done (addresses_of false buffers))) begun later
+      → Loads races now next → then_waiting ≡ waiting → then_limits ≡ then
+      → IsPuttingOut races old next buffers limits then_limits frames then_waiting (done + n) later
+  put_out_more next n later then_waiting then_limits fits more loads frames_same limits_same =
+      let addrs = addresses_of false buffers in
+      let f = h.from in
+      let on : done + n - 12 ≡ done - 12 + n = omega (arith, f) in
+      let there : 12 + (done - 12) ≡ done = omega (arith, f) in
+      let inner : drop (done - 12) (drop 12 addrs) ≡ drop done addrs =
+      drop-drop (done - 12) 12 addrs ∙ ap (λ k. drop k addrs) there in
+      record {
+        from = omega (arith, f);
+        to = fits;
+        put = rw (on, take-add (done - 12) n (drop 12 addrs), inner)
+            (out_more races old now next (take (done - 12) (drop 12 addrs)) (take n (drop done addrs)) [] begun later
+            h.loads loads h.put more);
+        loads = loads_trans races old now next h.loads loads;
+        frames_stay = frames_same ∙ h.frames_stay;
+        limits_stay = limits_same ∙ h.limits_stay;
+      }
+
+  pub room_at_end : has_room limits frames (len_of false buffers - 12) ≡ true → has_room then waiting (length begun) ≡ true
+  room_at_end room =
+      let t = h.to in
+      rw (h.frames_stay, h.limits_stay) (shorter limits frames (len_of false buffers - 12) (length begun) room
+      (omega (arith, begun_long, t)))
+
   -- once all are out they are the frame
-  pub all_out : length list ≤ done → begun ≡ frame_of list
-  all_out le = sym (append-nil begun) ∙ ap (λ l. begun ++ l) (sym (drop_all done list le)) ∙ h.out
-
-  pub room_at_end : length list ≤ done → has_room limits frames (length (frame_of list)) ≡ true
-      → has_room now waiting (length begun) ≡ true
-  room_at_end le room = rw (h.frames_stay, h.limits_stay, all_out le) room
-
-  module _ (part : List ℕ) (is : part ≡ take (length part) (drop done list)) where
-    fits : length part ≤ length (drop done list)
-    fits = let e = ap (λ (l : List ℕ). length l) is ∙ length-take (length part) (drop done list) in
-        omega (arith, e)
-
-    -- there is room for the next part
-    pub next_fits : has_room limits frames (length (frame_of list)) ≡ true
-        → has_room now waiting (length begun + length part) ≡ true
-    next_fits room =
-        let e = ap (λ (l : List ℕ). length l) h.out in
-        let a = length-append begun (drop done list) in
-        rw (h.frames_stay, h.limits_stay) (shorter limits frames (length (frame_of list))
-        (length begun + length part) room (omega (arith, e, a, fits)))
-
-    -- and then it is out as well
-    pub put_out_more : (later : List ℕ) (then_waiting : List (List ℕ)) (then_now : Limits)
-        → later ≡ begun ++ part → then_waiting ≡ waiting → then_now ≡ now
-        → IsPuttingOut limits then_now frames then_waiting list (done + length part) later
-    put_out_more later then_waiting then_now put frames_same limits_same = record {
-      some = omega (arith, fits, length-drop done list, h.some);
-      out =
-          ap (λ l. l ++ drop (done + length part) list) put
-          ∙ append_assoc begun part (drop (done + length part) list)
-          ∙ ap (λ l. begun ++ l) (ap₂ (λ (a b : List ℕ). a ++ b) is (sym (drop-drop (length part) done list))
-          ∙ take-append-drop (length part) (drop done list)) ∙ h.out;
-      frames_stay = frames_same ∙ h.frames_stay;
-      limits_stay = limits_same ∙ h.limits_stay;
-    }
+  pub all_out : len_of false buffers ≤ done → (more : List (List ℕ)) → more ≡ waiting ++ begun ∷ []
+      → IsSent old now buffers frames more
+  all_out all more ended =
+      let addrs = addresses_of false buffers in
+      let l = length-addresses_of false buffers in
+      let whole : take (done - 12) (drop 12 addrs) ≡ drop 12 addrs =
+      take_all (done - 12) (drop 12 addrs) (let d = length-drop 12 addrs in omega (arith, d, l, all)) in
+      record {
+        frame = h.put.bytes;
+        seen = rw whole at h.put.seen;
+        sent = ended ∙ rw (h.frames_stay, h.put.out) refl;
+      }
 
 -- ---- what becomes of a chain
-
--- nothing is written
-pub used_len-none : (n : ℕ) → used_len (unwritten n) ≡ 0
-used_len-none zero = refl
-used_len-none (suc n) = refl
 
 -- whether a chain's frame may go out, and whether it may now, by its length
 pub room_for : (limits : Limits) (frames : List (List ℕ)) (readable : List ℕ) (len frame : ℕ) (answer : Bool)
@@ -94,34 +133,45 @@ sent_now limits frames readable len frame answer l f a fits =
       room,
     )
 
+off : (x a b : Bool) → (x && a) ≡ false → (x && b) ≡ true → a ≡ false
+off true a b isnt is = isnt
+off false a b isnt is = absurd (true≢false (sym is))
+
+-- one for which there is no room now
+pub left_now : (limits : Limits) (frames : List (List ℕ)) (readable : List ℕ) (len frame : ℕ) (answer admitted : Bool)
+    → length readable ≡ len → frame ≡ len - 12 → answer ≡ has_room limits frames frame
+    → admitted ≡ has_room limits [] frame → (nat_lt 12 len && answer) ≡ false → (nat_lt 12 len && admitted) ≡ true
+    → (is_sendable limits readable ≡ true)
+    × (has_room limits frames (length (frame_of readable)) ≡ false)
+left_now limits frames readable len frame answer admitted l f a b isnt is = (
+  sendable_is limits readable len frame admitted l f b ∙ is,
+  room_for limits frames readable len frame answer l f a ∙ off (nat_lt 12 len) answer admitted isnt is,
+)
+
 -- a chain is dropped
-pub drop_does : (limits : Limits) (m : Memory) (buffers : List Buffer) (frames : List (List ℕ))
-    (dropped more : ℕ) → is_sendable limits (readable_of m buffers) ≡ false → more ≡ counted dropped 1
-    → Does (transmit limits) m m buffers (passing frames dropped) (passing frames more) 0 false
-drop_does limits m buffers frames dropped more unsendable count =
-    let w = length (writable_of buffers) in
-    record {
-      written = unwritten w;
-      gives = (rw (unsendable, count) refl, λ e. absurd (true≢false (sym e ∙ unsendable)));
-      each = length-replicate {A = Option ℕ} w None;
-      memory = sym (scattered-unwritten m (writable_of buffers) w);
-      len_is = sym (used_len-none w);
-      any_is = sym (wrote-unwritten w);
-    }
+pub drop_raced : (limits : Limits) (races : Bool) (old : Sightings) (buffers : List Buffer) (frames : List (List ℕ))
+    (dropped more : ℕ) → Good (memory old) buffers → is_sendable limits (readable_of (memory old) buffers) ≡ false
+    → more ≡ counted dropped 1
+    → DoesRaced (transmit limits) races old old buffers (passing frames dropped) (passing frames more) 0 false
+drop_raced limits races old buffers frames dropped more good unsendable count =
+    writes_nothing (transmit limits) races old buffers (passing frames dropped) (passing frames more) good
+    (rw (unsendable, count) refl, λ e. absurd (true≢false (sym e ∙ unsendable)))
 
 -- a chain's frame goes out
-pub send_does : (limits : Limits) (m : Memory) (buffers : List Buffer) (frames more : List (List ℕ))
-    (dropped : ℕ) → is_sendable limits (readable_of m buffers) ≡ true
-    → has_room limits frames (length (frame_of (readable_of m buffers))) ≡ true
-    → more ≡ frames ++ frame_of (readable_of m buffers) ∷ []
-    → Does (transmit limits) m m buffers (passing frames dropped) (passing more dropped) 0 false
-send_does limits m buffers frames more dropped sendable room is =
-    let w = length (writable_of buffers) in
-    record {
-      written = unwritten w;
-      gives = (rw (sendable, is) refl, λ e. room);
-      each = length-replicate {A = Option ℕ} w None;
-      memory = sym (scattered-unwritten m (writable_of buffers) w);
-      len_is = sym (used_len-none w);
-      any_is = sym (wrote-unwritten w);
-    }
+pub send_raced : (limits : Limits) (races : Bool) (old new : Sightings) (buffers : List Buffer) (frames more : List (List ℕ))
+    (dropped len frame : ℕ) (answer : Bool) → Good (memory old) buffers → Loads races old new
+    → IsSent old new buffers frames more → len ≡ len_of false buffers → frame ≡ len - 12
+    → answer ≡ has_room limits frames frame → (nat_lt 12 len && answer) ≡ true
+    → DoesRaced (transmit limits) races old new buffers (passing frames dropped) (passing more dropped) 0 false
+send_raced limits races old new buffers frames more dropped len frame answer good loads sent l f a fits =
+    let stood = readable_of (memory old) buffers in
+    let readable = unread stood 12 sent.frame in
+    let seen = seen_behind races old new buffers 12 sent.frame good loads sent.seen in
+    let long : length readable ≡ len =
+    bytes_count old new (addresses_of false buffers) readable seen ∙ length-addresses_of false buffers ∙ sym l in
+    let p = and_true (nat_lt 12 len) answer fits in
+    let some = ltb-true 12 len p.0 in
+    let is : frame_of readable ≡ sent.frame = behind_is races old new buffers 12 sent.frame good (omega (arith, some, l)) in
+    let now = sent_now limits frames readable len frame answer long f a fits in
+    reads (transmit limits) races old new buffers (passing frames dropped) (passing more dropped) readable loads seen
+    (rw (now.0, is, sent.sent) refl, λ e. now.1)

@@ -4,3 +4,4 @@ pub mod Frames
 pub mod Header
 pub mod Network
 pub mod Receiving
+pub mod Sending

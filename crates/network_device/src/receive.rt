@@ -1,17 +1,18 @@
 //! The receive queue's device: it serves chains over the frames that wait.
 
-ghost use Rattle.std.specs.Prelude.{◌≡◌, ◌++◌, ◌+◌, ◌≤◌, ◌<◌, All, length, drop, not, get_or, []};
-ghost use Rattle.guest_memory.specs.Memory.{SameRange};
+ghost use Rattle.std.specs.Prelude.{◌≡◌, ◌++◌, ◌+◌, ◌≤◌, ◌<◌, length, take, drop, get_or, []};
 ghost use Rattle.chain.specs.Buffers.{Good};
-ghost use Rattle.chain.specs.Bytes.{scatter, writable_of};
+ghost use Rattle.chain.specs.Bytes.{writable_of};
+ghost use Rattle.shared_memory.specs.Bytes.{StoresEach};
+ghost use Rattle.shared_memory.specs.Sightings.{memory};
 ghost use Rattle.network_device.specs.Device.{fits, misfits};
 ghost use Rattle.network_device.specs.Header.{receive_header};
 
 use crate::header::{HEADER, HEADER_LEN, receive_header};
 use crate::store::FrameStore;
-use chain::Chain;
-use guest_memory::GuestMemory;
-use mmio_window::{QueueHandler, Used};
+use chain::{Chain, Used};
+use chain_handler::{ChainHandler, store_in_chain};
+use shared_memory::Shared;
 use std::alloc::Allocator;
 
 /// No waiting frame fits the chain on offer.
@@ -25,11 +26,11 @@ pub(crate) struct Receive {
     pub dropped: u64,
 }
 
-impl<A: Allocator> QueueHandler<FrameStore<A>> for Receive {
+impl<A: Allocator> ChainHandler<FrameStore<A>> for Receive {
     type Refusal = NoneFits;
 
     ghost use Rattle.std.specs.Prelude.{length};
-    ghost use Rattle.chain.specs.Bytes.{readable_of, writable_of};
+    ghost use Rattle.chain.specs.Bytes.{writable_of};
     ghost use Rattle.network_device.specs.declared.limits.Limits.{Limits};
     ghost use Rattle.network_device.specs.Device.{Passing, passing, receive};
 
@@ -43,20 +44,18 @@ impl<A: Allocator> QueueHandler<FrameStore<A>> for Receive {
 
     ghost device = { λ limits. receive };
 
-    ghost Refuses = { λ limits left waiting memory buffers why.
-        receive.LacksMemory waiting (readable_of memory buffers) (length (writable_of buffers)) };
+    ghost Refuses = { λ limits left waiting readable buffers why.
+        receive.LacksMemory waiting readable (length (writable_of buffers)) };
 
     ghost IsReady = { λ here store. store.begun ≡ [] };
-
-    ghost Keeps = { λ here store there later. Unit {0} };
 
     fn takes(&self, store: &FrameStore<A>) -> bool {
         store.count() > 0
     }
 
-    fn serve<M: Allocator>(
+    fn serve<M: Shared>(
         &mut self,
-        mem: &mut GuestMemory<M>,
+        mem: &mut M,
         chain: &Chain,
         store: &mut FrameStore<A>,
     ) -> Result<Used, NoneFits> {
@@ -109,22 +108,17 @@ pub(crate) fn skip<A: Allocator>(store: &mut FrameStore<A>, count: usize)
     }
 }
 
-/// Writes a header and a frame of two parts into a chain, and answers how many bytes they are.
-fn write_frame<M: Allocator>(
-    mem: &mut GuestMemory<M>,
-    chain: &Chain,
-    front: &[u8],
-    back: &[u8],
-) -> u32
-    requires good { Good mem.old chain.now }
+/// Stores a header and a frame of two parts in a chain, and answers how many bytes they are.
+fn write_frame<M: Shared>(mem: &mut M, chain: &Chain, front: &[u8], back: &[u8]) -> u32
+    requires good { Good (memory (M.sightings mem.old)) chain.now }
     requires fits { 12 + length front.now + length back.now ≤ length (writable_of chain.now) }
-    ensures written { mem.new ≡ scatter mem.old (writable_of chain.now) (receive_header ++ front.now ++ back.now) }
+    ensures stored { StoresEach M.races (M.sightings mem.old) (M.sightings mem.new)
+        (take result (writable_of chain.now)) (receive_header ++ front.now ++ back.now) }
     ensures len { result ≡ 12 + length front.now + length back.now }
-    ensures range { SameRange mem.old mem.new }
 {
     let header = receive_header();
-    chain.write_at(mem, 0, &header);
-    chain.write_at(mem, HEADER, front);
-    chain.write_at(mem, HEADER + front.len() as u64, back);
+    store_in_chain(mem, chain, 0, &header);
+    store_in_chain(mem, chain, HEADER, front);
+    store_in_chain(mem, chain, HEADER + front.len() as u64, back);
     (HEADER_LEN + front.len() + back.len()) as u32
 }

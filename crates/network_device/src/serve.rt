@@ -13,6 +13,7 @@ use crate::outlet::FrameOutlet;
 use crate::receive::{Receive, skip};
 use crate::transmit::{NoRoom, Transmit};
 use chain::{Budget, Chain, Progress};
+use chain_handler::Standing;
 use guest_memory::GuestMemory;
 use mmio_window::{Stage, Window, serve_piece};
 use std::alloc::Allocator;
@@ -38,12 +39,12 @@ impl<A: Allocator> NetworkDevice<A> {
         ensures range { SameRange mem.old mem.new }
         ensures sound { IsSound mem.new window.new }
     {
-        let device = &mut Receive {
+        let device = &mut Standing(Receive {
             dropped: self.dropped_in,
-        };
+        });
         let waiting = &mut self.waiting;
         let served = serve_piece(device, waiting, RECEIVEQ, mem, window, stage, budget, room);
-        self.dropped_in = device.dropped;
+        self.dropped_in = device.0.dropped;
         match served {
             Ok(progress) => progress,
             Err(_) => {
@@ -89,11 +90,11 @@ impl<A: Allocator> NetworkDevice<A> {
         ensures range { SameRange mem.old mem.new }
         ensures sound { IsSound mem.new window.new }
     {
-        let device = &mut Transmit {
+        let device = &mut Standing(Transmit {
             dropped: self.dropped_out,
-        };
+        });
         let served = serve_piece(device, out, TRANSMITQ, mem, window, stage, budget, room);
-        self.dropped_out = device.dropped;
+        self.dropped_out = device.0.dropped;
         served
     }
 }

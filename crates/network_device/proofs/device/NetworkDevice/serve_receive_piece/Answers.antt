@@ -12,7 +12,7 @@ returns-in-Err-clause-served g c =
     rw (← c.self.view_is) (inr (
       refl,
       record {
-        last = passing c.serve_piece-served.new.backend.frames c.serve_piece-served.new.device.dropped;
+        last = passing c.serve_piece-served.new.backend.frames c.serve_piece-served.new.device.0.dropped;
         refused = left.ends left.refuses;
         dropped = ap (λ (n : Network). n.waiting) c.drop_waiting.ensures;
       },
