@@ -12,7 +12,7 @@ use Rattle.chain.proofs.Simulating.{DoesAs, service_as}
 use Rattle.console_device.specs.Input.{IsLeft}
 use Rattle.console_device.specs.Output.{PutsOut}
 use Rattle.console_device.specs.Device.{received, receive, transmitted, transmit, exact_transmit, transmit_within}
-use Rattle.console_device.proofs.Receiving.{used_len-none}
+use Rattle.chain_handler.proofs.Doing.{used_len-none}
 
 -- there is at most one answer to a chain
 pub receive_once : HasAtMostOneAnswer receive

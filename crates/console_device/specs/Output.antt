@@ -1,11 +1,14 @@
--- What a service of the transmit queue puts out.
-use Rattle.std.specs.Prelude.{◌≡◌, ◌≢◌, Bool, ℕ, Option, List, [], ◌++◌}
+-- What a service of the transmit queue puts out, and what it leaves.
+use Rattle.std.specs.Prelude.{◌≡◌, ◌≢◌, Bool, ℕ, Option, List, [], ◌++◌, length}
 use Rattle.guest_memory.specs.Memory.{Memory}
+use Rattle.chain.specs.declared.segment.Buffer.{Buffer}
+use Rattle.chain.specs.Bytes.{writable_of}
 use Rattle.chain.specs.Service.{Device, Kind, Ending, Refused, IsService}
 use Rattle.mmio_window.specs.declared.queue.Queue.{Queue}
 use Rattle.mmio_window.specs.Serving.{Notified}
 use Rattle.mmio_window.specs.Window.{WindowState}
-use Rattle.console_device.specs.Device.{transmit}
+use Rattle.console_device.specs.declared.no_memory.NoMemory.{NoMemory}
+use Rattle.console_device.specs.Device.{transmit, transmit_within}
 
 -- A service puts these bytes out behind what stood there before: they are those of the same service into an
 -- empty output.
@@ -22,3 +25,7 @@ pub record IsUnrefused {State : Type 0} (device : Device State) (q : ℕ) (queue
   pub ending : Ending
   pub unrefused : ending ≢ Refused
   pub notified : Notified device q queue ending old new before after s s'
+
+-- an outlet with this limit may refuse these readable bytes behind those that wait in it
+abbrev pub NoRoom : Option ℕ → List ℕ → List ℕ → List Buffer → NoMemory → Type 0
+NoRoom limit out readable buffers why = (transmit_within limit).LacksMemory out readable (length (writable_of buffers))

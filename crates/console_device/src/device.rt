@@ -75,7 +75,8 @@ impl<A: Allocator> ConsoleDevice<A> {
     }
 
     /// Takes the first pending bytes away, once they stand in a buffer of the driver.
-    pub fn skip_input(&mut self, count: usize)
+    #[inline(always)]
+    pub(crate) fn skip_input(&mut self, count: usize)
         requires { count ≤ length self.old.pending }
         ensures { self.new ≡ record self.old { pending = drop count self.old.pending } }
     {

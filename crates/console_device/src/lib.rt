@@ -20,3 +20,5 @@ pub use laws::{
 };
 pub use no_memory::NoMemory;
 pub use outlet::Outlet;
+pub use receive::ReceiveHandler;
+pub use transmit::TransmitHandler;

@@ -13,9 +13,10 @@ ghost use Rattle.console_device.specs.Output.{IsUnrefused};
 use crate::device::{ConsoleDevice, RECEIVEQ, TRANSMITQ};
 use crate::no_memory::NoMemory;
 use crate::outlet::Outlet;
-use crate::receive::Receive;
-use crate::transmit::Transmit;
+use crate::receive::ReceiveHandler;
+use crate::transmit::TransmitHandler;
 use chain::{Budget, Chain, Progress};
+use chain_handler::Standing;
 use guest_memory::GuestMemory;
 use mmio_window::{Stage, Window, serve_piece};
 use std::alloc::Allocator;
@@ -53,8 +54,8 @@ impl<A: Allocator> ConsoleDevice<A> {
         ensures range { SameRange mem.old mem.new }
         ensures sound { IsSound mem.new window.new }
     {
-        let (device, pending) = (&mut Receive, &mut self.pending);
-        match serve_piece(device, pending, RECEIVEQ, mem, window, stage, budget, room) {
+        let device = &mut Standing(ReceiveHandler);
+        match serve_piece(device, self, RECEIVEQ, mem, window, stage, budget, room) {
             Ok(progress) => progress,
             Err(_) => unreachable!(),
         }
@@ -112,7 +113,7 @@ impl<A: Allocator> ConsoleDevice<A> {
         ensures range { SameRange mem.old mem.new }
         ensures sound { IsSound mem.new window.new }
     {
-        let device = &mut Transmit;
+        let device = &mut Standing(TransmitHandler);
         serve_piece(device, out, TRANSMITQ, mem, window, stage, budget, room)
     }
 }

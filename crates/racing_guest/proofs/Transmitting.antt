@@ -18,7 +18,7 @@ use Rattle.console_device.specs.declared.no_memory.NoMemory.{NoMemory}
 use Rattle.console_device.specs.Device.{transmit_within}
 use Rattle.racing_service.specs.declared.service.Limits.{Limits}
 use Rattle.racing_service.specs.declared.service.Refused.{Refused}
-use Rattle.racing_console.specs.Output.{NoRoom}
+use Rattle.console_device.specs.Output.{NoRoom}
 use Rattle.racing_window.specs.Serving.{IsLeft}
 use Rattle.racing_guest.specs.Console.{ClosesLeft, TransmitsUpTo}
 

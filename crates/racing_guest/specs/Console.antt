@@ -26,7 +26,7 @@ use Rattle.console_device.specs.Input.{fitting}
 use Rattle.racing_service.specs.declared.stage.Stage.TheVariants.{First}
 use Rattle.racing_service.specs.declared.service.Limits.{Limits}
 use Rattle.racing_service.specs.Service.{IsRefusedService, standing_at}
-use Rattle.racing_console.specs.Output.{NoRoom}
+use Rattle.console_device.specs.Output.{NoRoom}
 use Rattle.racing_window.specs.Queue.{racing_queue}
 use Rattle.racing_window.specs.Serving.{Notified}
 use Rattle.racing_guest.specs.declared.reply.GuestQueue.{GuestQueue}

@@ -18,7 +18,6 @@ use crate::reply::{GuestQueue, Reply};
 use chain::{Chain, Progress};
 use console_device::{ConsoleDevice, EMERGENCY_WRITE, NoMemory, Outlet, RECEIVEQ, TRANSMITQ};
 use mmio_window::{Action, DeviceKind, Window};
-use racing_console::{RacingReceive, RacingTransmit};
 use racing_ring::Room;
 use racing_service::Limits;
 use racing_window::put_to;
@@ -31,8 +30,6 @@ use std::marker::Model;
 pub struct RacingConsole<A: Allocator = Global> {
     window: Window,
     device: ConsoleDevice<A>,
-    receive: RacingReceive,
-    transmit: RacingTransmit,
 }
 
 impl<A: Allocator> Model for RacingConsole<A> {
@@ -53,8 +50,6 @@ impl<A: Allocator + Copy> RacingConsole<A> {
         Ok(RacingConsole {
             window: Window::new(DeviceKind::Console, device.features()),
             device,
-            receive: RacingReceive::new(),
-            transmit: RacingTransmit::new(),
         })
     }
 }
@@ -161,7 +156,7 @@ impl<A: Allocator> RacingConsole<A> {
         ensures sound { IsSoundConsole (memory (M.sightings mem.new)) self.new }
     {
         let (window, device) = (&mut self.window, &mut self.device);
-        receive(window, device, &mut self.receive, mem, limits, chain, room)
+        receive(window, device, mem, limits, chain, room)
     }
 
     /// Puts out the chains of its transmit queue, where the window is live and the queue ready. A chain for whose bytes `out` has
@@ -185,15 +180,7 @@ impl<A: Allocator> RacingConsole<A> {
         ensures sound { IsSoundConsole (memory (M.sightings mem.new)) self.new }
         ensures device { self.new.device ≡ self.old.device }
     {
-        transmit(
-            &mut self.window,
-            &mut self.transmit,
-            mem,
-            limits,
-            chain,
-            room,
-            out,
-        )
+        transmit(&mut self.window, mem, limits, chain, room, out)
     }
 
     /// Takes what is typed, as much of it as fits: how many bytes that is. The caller serves the receive queue then.

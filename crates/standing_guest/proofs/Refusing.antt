@@ -19,7 +19,7 @@ use Rattle.racing_service.specs.declared.stage.Stage.TheVariants.{First, Again}
 use Rattle.racing_service.specs.Laws.{site_of}
 use Rattle.racing_service.specs.Service.{AreBusyRounds, AreRounds, Drained, Round, RunsUpTo, ServesSome, Standing, any_wanted, stage_behind, standing_at}
 use Rattle.racing_service.proofs.Rounds.{left_service, one_service}
-use Rattle.racing_console.specs.Output.{NoRoom}
+use Rattle.console_device.specs.Output.{NoRoom}
 use Rattle.racing_window.specs.Queue.{racing_queue}
 use Rattle.racing_window.proofs.Rings.{IsQueueSound, queue_stands_still}
 use Rattle.racing_window.proofs.Sizes.{sound_queue}

@@ -10,9 +10,10 @@ ghost use Rattle.racing_window.specs.Serving.{Notified};
 ghost use Rattle.racing_guest.specs.Console.{ClosesLeft, TransmitsUpTo};
 
 use chain::{Chain, Progress};
-use console_device::{ConsoleDevice, NoMemory, Outlet, RECEIVEQ, TRANSMITQ};
+use console_device::{
+    ConsoleDevice, NoMemory, Outlet, RECEIVEQ, ReceiveHandler, TRANSMITQ, TransmitHandler,
+};
 use mmio_window::{Left, Window, show};
-use racing_console::{RacingReceive, RacingTransmit};
 use racing_ring::Room;
 use racing_service::{Limits, RacingQueue};
 use racing_window::{RacingRing, serve_queue};
@@ -23,7 +24,6 @@ use std::alloc::Allocator;
 pub(super) fn receive<M: Shared, A: Allocator>(
     window: &mut Window,
     console: &mut ConsoleDevice<A>,
-    device: &mut RacingReceive,
     mem: &mut M,
     limits: Limits,
     chain: &mut Chain,
@@ -36,6 +36,7 @@ pub(super) fn receive<M: Shared, A: Allocator>(
     ensures range { SameRange (memory (M.sightings mem.old)) (memory (M.sightings mem.new)) }
     ensures sound { IsSound (memory (M.sightings mem.new)) window.new }
 {
+    let device = &mut ReceiveHandler;
     match serve_queue(window, RECEIVEQ, device, console, mem, limits, chain, room) {
         Ok(progress) => progress,
         Err(_) => unreachable!(),
@@ -45,7 +46,6 @@ pub(super) fn receive<M: Shared, A: Allocator>(
 /// Puts out the chains of the transmit queue. One for whose bytes `out` has no room stays on offer.
 pub(super) fn transmit<M: Shared, O: Outlet>(
     window: &mut Window,
-    device: &mut RacingTransmit,
     mem: &mut M,
     limits: Limits,
     chain: &mut Chain,
@@ -62,6 +62,7 @@ pub(super) fn transmit<M: Shared, O: Outlet>(
     ensures range { SameRange (memory (M.sightings mem.old)) (memory (M.sightings mem.new)) }
     ensures sound { IsSound (memory (M.sightings mem.new)) window.new }
 {
+    let device = &mut TransmitHandler;
     match serve_queue(window, TRANSMITQ, device, out, mem, limits, chain, room) {
         Ok(progress) => Ok(progress),
         Err(refused) => {

@@ -3,7 +3,7 @@
 use crate::tests::meddled::Meddled;
 use chain::Chain;
 use chain_handler::ChainHandler;
-use racing_console::RacingTransmit;
+use console_device::TransmitHandler;
 use racing_memory::{RacingMemory, RacingRegion};
 use shared_memory::Shared;
 use std::alloc::Allocator;
@@ -23,7 +23,7 @@ fn is_sent_twice<M: Shared, A: Allocator>(mem: &mut M, out: &mut Vec<u8, A>) -> 
     if chain.push_tested(inside, BASE, 1, false).is_err() {
         return false;
     }
-    RacingTransmit::new().serve(mem, &chain, out).is_ok()
+    TransmitHandler.serve(mem, &chain, out).is_ok()
 }
 
 /// The byte is `A` as the first buffer is copied, and `D` as the second one is.

@@ -1,4 +1,4 @@
-use Rattle.console_device.proofs.Receiving.{used_len-none}
+use Rattle.chain_handler.proofs.Doing.{used_len-none}
 use Rattle.console_device.proofs.Services.{used_len-received}
 use Rattle.console_device.proofs.laws.used_len_counts_what_was_received.Goals as goal
 

@@ -1,14 +1,23 @@
-use Rattle.std.proofs.Common.{◌∙◌}
-use Rattle.chain.specs.Bytes.{readable_of}
-use Rattle.console_device.proofs.Transmitting.{put_out_more}
+use Rattle.shared_memory.specs.Sightings.{memory}
+use Rattle.console_device.proofs.Transmitting.{on_ok, whole_long, whole_out}
 use Rattle.console_device.proofs.transmit.put_out.Goals as goal
 
-pub loop-done-preserved : goal.loop-done-preserved
-loop-done-preserved g c = (
-  put_out_more (readable_of c.args.mem.now c.args.chain.now) c.loop-done.done
-      (g.O.Outlet.bytes c.args.out.now) (g.O.Outlet.bytes c.loop-done.out) (g.O.Outlet.room c.loop-done.out)
-      c.loop-done.invariant.0
-      c.read_part-part.result.now c.read_part-part.ensures.listed (g.O.Outlet.bytes c.append.new.self)
-      (g.O.Outlet.room c.append.new.self) c.append.ensures.bytes c.append.ensures.room,
-  c.append.ensures.limit ∙ c.loop-done.invariant.1,
-)
+pub returns-in-Some-clause-ok : goal.returns-in-Some-clause-ok
+returns-in-Some-clause-ok g c =
+    on_ok c.put.result _ _ (whole_out (g.M.Shared.sightings c.args.mem.now) c.args.chain.now c.in-Some.bytes.now
+    (g.O.Outlet.bytes c.args.out.now) (g.O.Outlet.bytes c.put.new.self) c.requires.good c.in-Some.ensures) c.put.ensures.ok
+
+pub returns-in-Some-clause-fits : goal.returns-in-Some-clause-fits
+returns-in-Some-clause-fits g c =
+    rw (whole_long (memory (g.M.Shared.sightings c.args.mem.now)) c.args.chain.now c.in-Some.bytes.now c.requires.good.inside
+    c.in-Some.ensures) at c.put.ensures.fits
+
+pub returns-in-Some-clause-owed : goal.returns-in-Some-clause-owed
+returns-in-Some-clause-owed g c =
+    rw (whole_long (memory (g.M.Shared.sightings c.args.mem.now)) c.args.chain.now c.in-Some.bytes.now c.requires.good.inside
+    c.in-Some.ensures) at c.put.ensures.some
+
+pub returns-in-Some-clause-refused : goal.returns-in-Some-clause-refused
+returns-in-Some-clause-refused g c =
+    rw (whole_long (memory (g.M.Shared.sightings c.args.mem.now)) c.args.chain.now c.in-Some.bytes.now c.requires.good.inside
+    c.in-Some.ensures) at c.put.ensures.refused

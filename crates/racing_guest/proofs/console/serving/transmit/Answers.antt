@@ -1,5 +1,5 @@
 use Rattle.console_device.specs.Device.{transmit_within}
-use Rattle.racing_console.specs.Output.{NoRoom}
+use Rattle.console_device.specs.Output.{NoRoom}
 use Rattle.racing_guest.proofs.Transmitting.{left_is_there, transmits_up_to}
 use Rattle.racing_guest.proofs.console.serving.transmit.Goals as goal
 

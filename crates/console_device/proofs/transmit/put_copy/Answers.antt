@@ -1,6 +1,6 @@
 use Rattle.std.proofs.Common.{length}
 use Rattle.chain_handler.proofs.Doing.{copy_out}
-use Rattle.racing_console.proofs.putting.put_copy.Goals as goal
+use Rattle.console_device.proofs.transmit.put_copy.Goals as goal
 
 pub returns-clause-put : goal.returns-clause-put
 returns-clause-put g c =

@@ -2,8 +2,8 @@ use Rattle.std.proofs.Common.{◌∙◌, length, ap, arith}
 use Rattle.chain.specs.Bytes.{writable_of}
 use Rattle.console_device.specs.Console.{Console}
 use Rattle.shared_memory.specs.Sightings.{memory}
-use Rattle.racing_console.proofs.Receiving.{few_received, left_of_input, receive_raced}
-use Rattle.racing_console.proofs.receive.RacingReceiveChainHandlerConsoleDevice.serve.Goals as goal
+use Rattle.console_device.proofs.Receiving.{few_received, left_of_input, receive_does}
+use Rattle.console_device.proofs.receive.ReceiveHandlerChainHandlerConsoleDevice.serve.Goals as goal
 
 pub overflow_cast-result : goal.overflow_cast-result
 overflow_cast-result g c =
@@ -15,7 +15,7 @@ overflow_cast-result g c =
 
 pub returns-clause-does : goal.returns-clause-does
 returns-clause-does g c =
-    receive_raced g.M.Shared.races (g.M.Shared.sightings c.args.mem.now)
+    receive_does g.M.Shared.races (g.M.Shared.sightings c.args.mem.now)
     (g.M.Shared.sightings c.store_input-count.new.mem) c.args.chain.now c.args.console.now.pending
     c.skip_input.new.self.pending c.store_input-count.result c.requires.good c.store_input-count.ensures.count
     c.store_input-count.ensures.stored

@@ -1,3 +1,0 @@
-pub mod PuttingOut
-pub mod Receiving
-pub mod Standing
