@@ -5,8 +5,6 @@ mod device;
 mod laws;
 mod requestq;
 mod serve;
-#[cfg(test)]
-mod tests;
 
 pub use device::EntropyDevice;
 pub use laws::{
