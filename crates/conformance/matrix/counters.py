@@ -15,7 +15,7 @@ COLUMNS = ("What", "How often")
 FOLDERS = {"counters": "The 256th and the 65,536th of each thing, and those beside it."}
 
 BYTE, HALF = 1 << 8, 1 << 16
-# A slot of version 2: the gate's program replays such a trace once.
+# A slot of version 2: the gate replays such a trace in that version alone.
 SLOT = Slot(identity=b"counted" + bytes(13))
 
 

@@ -19,8 +19,7 @@ shows. Nothing here is written by hand.
 LARGE_HEAD = """# Large disks
 
 Scenarios of [the matrix](../MATRIX.md) whose image is too large to be written out: **NAME.before** has `zeros N`, the number of its
-sectors, each of zeros. `run-on` and `mutants/run` run them; the gate's program, which keeps the image's text, doesn't. Nothing here is
-written by hand.
+sectors, each of zeros. Nothing here is written by hand.
 """
 
 MATRIX_HEAD = """# The matrix of fields, positions, orders and ends

@@ -7,7 +7,7 @@ import re
 from . import index, made, trace
 
 CRATE = made.CRATE
-# The worked scenarios, those of the matrix, and those of these with a large image, which the gate's program doesn't replay.
+# The worked scenarios, those of the matrix, and those of these with a large image.
 FOLDERS = [os.path.join(made.MADE, part) for part in made.PARTS]
 SECTOR = 512
 # The files that a scenario may have.
