@@ -16,8 +16,6 @@ from .story import Disagrees
 
 CRATE = made.CRATE
 SUMS = os.path.join(CRATE, "matrix", "SUMS")
-# The last lines of the gate's output, which an archive of the suite hasn't.
-STDOUT_END = os.path.join(CRATE, "stdout.end")
 quick.use()
 
 # The stories that are made in this run, for processes that are forked off.
@@ -82,15 +80,7 @@ def by_rows(table):
         files = {path: what for row in found.rows.values() for path, what in put("scenarios", row.name, row.files()).items()}
     except rows.NoRow as wrong:
         raise Wrong(str(wrong)) from None
-    return entry(table, files, [(row.name, row.about, "scenarios", is_in_version_1(row)) for row in found.rows.values()],
-                 folders={found.subject: found.head})
-
-
-def is_in_version_1(row):
-    """Whether the gate's program replays a row in version 2 too."""
-    files = row.files()
-    return (files[".trace"].startswith(b"vreplay 1\n") and not files[".records"].startswith(b"fault trace ")
-            and files[".trace"].count(b"\nslot ") <= 16)
+    return entry(table, files, [(row.name, row.about, "scenarios") for row in found.rows.values()], folders={found.subject: found.head})
 
 
 def entry(table, files, scenarios, **more):
@@ -111,11 +101,6 @@ def sum_there(one):
         return None
 
 
-def is_in_both(story):
-    """Whether the gate's program replays it in version 2 too."""
-    return folder_of(story) == "matrix" and story.head()[0] == "vreplay 1" and len(story.slots) <= 16 and not (story.fault or "").startswith("trace")
-
-
 def make(names, known, jobs):
     """Makes tables; what the state then says, and what is wrong."""
     gc.disable()
@@ -132,7 +117,7 @@ def make(names, known, jobs):
         if all(isinstance(one, dict) for one in answers):
             table = importlib.import_module(f"matrix.{name}")
             files = {path: what for one in answers for path, what in one.items()}
-            scenarios = [(story.name, story.about, folder_of(story), is_in_both(story)) for story in stories]
+            scenarios = [(story.name, story.about, folder_of(story)) for story in stories]
             remember(known, name, entry(name, files, scenarios, folders=table.FOLDERS, page=page.part_of(table, stories)))
     made.stamps_in.cache_clear()
     return wrong
@@ -172,7 +157,7 @@ def listed(known, part, head):
     """The page that lists the scenarios of a part."""
     groups = []
     for name in made.tables():
-        for scenario, about, where, _ in known[name]["scenarios"]:
+        for scenario, about, where in known[name]["scenarios"]:
             folder = scenario.partition("/")[0]
             if where == part:
                 if not groups or groups[-1][0] != folder:
@@ -197,20 +182,8 @@ def twice(known):
 
 
 def write_pages(known):
-    """Writes the pages of the scenarios and the gate's output."""
+    """Writes the pages of the scenarios."""
     write("MATRIX.md", matrix_page(known).encode())
     write("scenarios/README.md", listed(known, "scenarios", page.ROWS_HEAD).encode())
     write("matrix/README.md", listed(known, "matrix", page.LIST_HEAD).encode())
     write("large/README.md", listed(known, "large", page.LARGE_HEAD).encode())
-    if os.path.exists(STDOUT_END):
-        write("../stdout", gate_output(known).encode())
-
-
-def gate_output(known):
-    """What the gate's program must write: a line for each scenario that it replays, and behind them the lines of stdout.end."""
-    lines = []
-    for part in ("scenarios", "matrix"):
-        names = [(name, twice) for table in made.tables() for name, _, where, twice in known[table]["scenarios"] if where == part]
-        lines += [f"{name} ok\n" for name, _ in names]
-        lines.append(f"{part}: {sum(twice for _, twice in names)} give the same in version 2\n")
-    return "".join(lines) + made.text_of(STDOUT_END)
