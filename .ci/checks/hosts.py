@@ -214,7 +214,7 @@ def racing():
     if not shutil.which(COMPILER):
         return True, [f"no {COMPILER} to compile them with"]
     sources = [*(HOSTS / name for name in ("kvm-racing.c", "turns.c")), SUPPORT / "racing_host.c",
-               *(TESTS / name for name in ("racing.c", "racing_threads.c", "racing_accesses.c"))]
+               *(TESTS / name for name in ("racing.c", "racing_rows.c", "racing_threads.c", "racing_accesses.c"))]
     with tempfile.TemporaryDirectory() as folder:
         wrong = [line for source in sources for line in compiled(f"{folder}/{source.stem}.o", ["-I", SUPPORT, source, "-c", "-pthread"])]
         built, said = script(EMBED / "racing-build", f"{folder}/program")

@@ -1,9 +1,6 @@
-//! A module for each crate that is tried; `meddled` is a guest that writes between two reads.
+//! What C can't show: words that no queue has, and a guest that writes between two reads, `meddled`.
 
 mod console;
 mod disk;
-mod hosted_disk;
 mod meddled;
 mod memory;
-mod service;
-mod window;

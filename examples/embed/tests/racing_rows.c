@@ -1,0 +1,382 @@
+/*
+ * A guest that runs on, by rows: which bytes of its words a service reads and writes, what its driver then finds in its rings and its
+ * window, and where a service stops. Each value is worked out from the standard, or from what kalyubos.h says of a budget.
+ */
+#include <inttypes.h>
+#include <stdio.h>
+#include <stdlib.h>
+#include <string.h>
+
+#include "kalyubos.h"
+
+enum { LEN = 0x2000, SIZE = 4, LONG_SIZE = 32, SECTOR = 512, SECTORS = 8, IDENTITY_LEN = 20, OUTLET = 64, GUARD = 8 };
+enum { NEXT = 1, WRITE = 2, VERSION_1 = 1, RING_PACKED = 4, IN = 0, OUT = 1, GET_ID = 8, RECEIVE = 0, TRANSMIT = 1 };
+enum { NOTIFY = 0x050, INTERRUPT_STATUS = 0x060, STATUS = 0x070 };
+
+/* Two regions, and in the lower one a queue's table, its available and its used ring, headers, texts, statuses and data. */
+static const uint64_t LOW = 0x80000000, HIGH = 0x90000000, DRIVER = 0x80000100, DEVICE = 0x80000200;
+static const uint64_t HEADER = 0x80000300, REQUEST_STATUS = 0x80000380, DATA = 0x80001000;
+static const char IDENTITY[] = "an identity of 20 b.";
+
+static uint64_t low[LEN / 8], high[LEN / 8];
+static struct kalyubos_guest guest;
+static struct kalyubos_pending pending;
+
+static void need(bool holds, const char *what, uint64_t row)
+{
+    if (holds)
+        return;
+    printf("%s (%#" PRIx64 ")\n", what, row);
+    exit(1);
+}
+
+static uint8_t *place(uint64_t addr)
+{
+    return addr >= HIGH ? (uint8_t *)high + (addr - HIGH) : (uint8_t *)low + (addr - LOW);
+}
+
+static void put(uint64_t addr, uint64_t value, unsigned len)
+{
+    for (unsigned i = 0; i < len; i++)
+        *place(addr + i) = (uint8_t)(value >> 8 * i);
+}
+
+static uint64_t get(uint64_t addr, unsigned len)
+{
+    uint64_t value = 0;
+    for (unsigned i = 0; i < len; i++)
+        value |= (uint64_t)*place(addr + i) << 8 * i;
+    return value;
+}
+
+/* A guest anew, over zeros, whose services take so many chains; 0 is no limit. */
+static void begin(uint32_t chains)
+{
+    struct kalyubos_slot slot = {
+        .size = sizeof slot, .regions = { { LOW, LEN }, { HIGH, LEN } }, .count = SECTORS, .cols = 80, .rows = 25,
+        .outlet = OUTLET, .hosted = true, .depth = 3,
+    };
+    struct kalyubos_words words[] = { { low, LEN / 8 }, { high, LEN / 8 } };
+    struct kalyubos_guest_config config = kalyubos_guest_config_of(&slot, words, 2);
+    memcpy(slot.identity, IDENTITY, IDENTITY_LEN);
+    config.chains = chains;
+    if (guest.guest != NULL)
+        kalyubos_guest_destroy(&guest);
+    memset(low, 0, sizeof low);
+    memset(high, 0, sizeof high);
+    need(kalyubos_guest_create(&guest, &config) == KALYUBOS_DONE, "a guest", chains);
+}
+
+static uint32_t set(uint8_t window, uint16_t offset, uint32_t value)
+{
+    return kalyubos_guest_write(&guest, window, offset, 4, value, &pending);
+}
+
+static uint32_t reg(uint8_t window, uint16_t offset)
+{
+    uint32_t value = 0;
+    need(kalyubos_guest_read(&guest, window, offset, 4, &value) == KALYUBOS_DONE, "a register", offset);
+    return value;
+}
+
+/* Where a queue's areas lie. */
+struct areas {
+    uint32_t size;
+    uint64_t table, driver, device;
+};
+static const struct areas USUAL = { SIZE, 0x80000000, 0x80000100, 0x80000200 };
+
+/* Makes a queue of a window ready (3.1.1, 4.2.3.2). */
+static void bring_up(uint8_t window, uint32_t features, uint32_t queue, struct areas at)
+{
+    const uint32_t steps[][2] = { { STATUS, 3 }, { 0x24, 1 }, { 0x20, features }, { STATUS, 11 }, { 0x30, queue }, { 0x38, at.size },
+                                  { 0x80, (uint32_t)at.table }, { 0x90, (uint32_t)at.driver }, { 0xa0, (uint32_t)at.device },
+                                  { 0x44, 1 }, { STATUS, 15 } };
+    for (size_t i = 0; i < sizeof steps / sizeof *steps; i++)
+        need(set(window, (uint16_t)steps[i][0], steps[i][1]) == KALYUBOS_DONE, "a driver's step", i);
+}
+
+static void describe(uint32_t index, uint64_t addr, uint32_t len, uint16_t flags)
+{
+    put(LOW + 16 * index, addr, 8);
+    put(LOW + 16 * index + 8, len, 4);
+    put(LOW + 16 * index + 12, flags, 2);
+    put(LOW + 16 * index + 14, index + 1, 2);
+}
+
+/* Puts the chain of a head on offer at a place of the usual queue (2.7.13). */
+static void offer(uint16_t at, uint16_t head)
+{
+    put(DRIVER + 4 + 2 * at, head, 2);
+    put(DRIVER + 2, at + 1, 2);
+}
+
+/* Descriptors `first` and the two behind it are a request, of one buffer between its header and its status (5.2.6). */
+static void request(uint32_t first, uint64_t header, uint32_t type, uint64_t sector, uint64_t addr, uint32_t len, uint64_t status)
+{
+    put(header, type, 8);
+    put(header + 8, sector, 8);
+    put(status, 0xff, 1);
+    describe(first, header, 16, NEXT);
+    describe(first + 1, addr, len, (uint16_t)(NEXT | (type == OUT ? 0 : WRITE)));
+    describe(first + 2, status, 1, WRITE);
+}
+
+/* Whether `len` bytes from an address in HIGH on are these, and those beside them are still ff. */
+static bool stands(uint64_t addr, const char *bytes, size_t len)
+{
+    bool is_so = memcmp(place(addr), bytes, len) == 0;
+    for (size_t i = 1; i <= GUARD; i++)
+        is_so = is_so && *place(addr - i) == 0xff && *place(addr + len + i - 1) == 0xff;
+    return is_so;
+}
+
+/* ---- which bytes are written and read */
+
+/* An identity from each byte of a word on. */
+static void identities(void)
+{
+    for (uint64_t at = HIGH + GUARD; at <= HIGH + 2 * GUARD; at++) {
+        begin(0);
+        memset(high, 0xff, sizeof high);
+        bring_up(KALYUBOS_BLOCK, VERSION_1, 0, USUAL);
+        request(0, HEADER, GET_ID, 0, at, IDENTITY_LEN, REQUEST_STATUS);
+        offer(0, 0);
+        need(set(KALYUBOS_BLOCK, NOTIFY, 0) == KALYUBOS_DONE, "an identity is told", at);
+        need(stands(at, IDENTITY, IDENTITY_LEN) && get(REQUEST_STATUS, 1) == 0, "the bytes of an identity", at);
+        need(get(DEVICE, 8) == 0x10000 && get(DEVICE + 8, 4) == IDENTITY_LEN + 1, "the used entry of an identity", at);
+    }
+}
+
+/* One to nine typed bytes from each byte of a word on. */
+static void typed_bytes(void)
+{
+    static const char TYPED[] = "123456789";
+    for (uint32_t len = 1; len < sizeof TYPED; len++)
+        for (uint64_t at = HIGH + GUARD; at <= HIGH + 2 * GUARD; at++) {
+            size_t took = 0;
+            begin(0);
+            memset(high, 0xff, sizeof high);
+            bring_up(KALYUBOS_CONSOLE, VERSION_1, RECEIVE, USUAL);
+            describe(0, at, len, WRITE);
+            offer(0, 0);
+            need(kalyubos_guest_input(&guest, (const uint8_t *)TYPED, len, &took, &pending) == KALYUBOS_DONE && took == len, "bytes are typed", len);
+            need(stands(at, TYPED, len), "the bytes of what is typed", at);
+        }
+}
+
+/* Typed bytes over two buffers, of which the second lies before the first in the same word. */
+static void a_row_over_two_buffers(void)
+{
+    static const uint8_t TYPED[] = { 0x00, 0x11, 0x22, 0x33 };
+    size_t took = 0;
+    begin(0);
+    bring_up(KALYUBOS_CONSOLE, VERSION_1, RECEIVE, USUAL);
+    describe(0, HIGH + 4, 2, NEXT | WRITE);
+    describe(1, HIGH, 3, WRITE);
+    offer(0, 0);
+    need(kalyubos_guest_input(&guest, TYPED, sizeof TYPED, &took, &pending) == KALYUBOS_DONE && took == sizeof TYPED, "four bytes are typed", took);
+    need(get(HIGH, 8) == 0x0000110000003322, "four bytes in two buffers", get(HIGH, 8));
+}
+
+/* The header of a write to sector 5 from each byte of a word on. */
+static void headers(void)
+{
+    for (uint64_t at = HIGH; at <= HIGH + 8; at++) {
+        struct kalyubos_operation it;
+        struct kalyubos_run runs[KALYUBOS_RUNS];
+        begin(0);
+        bring_up(KALYUBOS_BLOCK, VERSION_1, 0, USUAL);
+        request(0, at, OUT, 5, DATA, SECTOR, REQUEST_STATUS);
+        offer(0, 0);
+        need(set(KALYUBOS_BLOCK, NOTIFY, 0) == KALYUBOS_IO, "a write is asked for", at);
+        need(kalyubos_guest_operation(&guest, 0, &it, runs, KALYUBOS_RUNS) == KALYUBOS_DONE, "its operation", at);
+        need(it.kind == KALYUBOS_OUT && it.start == 5 * SECTOR && it.len == SECTOR, "where it writes", at);
+        need(it.runs == 1 && runs[0].at == DATA && runs[0].len == SECTOR, "what it writes", at);
+    }
+}
+
+/* A text of nine bytes from each byte of a word on. */
+static void texts(void)
+{
+    static const char TEXT[] = "123456789";
+    for (uint64_t at = HIGH; at <= HIGH + 8; at++) {
+        char found[OUTLET];
+        size_t count = 0;
+        begin(0);
+        bring_up(KALYUBOS_CONSOLE, VERSION_1, TRANSMIT, USUAL);
+        memcpy(place(at), TEXT, 9);
+        describe(0, at, 9, 0);
+        offer(0, 0);
+        need(set(KALYUBOS_CONSOLE, NOTIFY, TRANSMIT) == KALYUBOS_DONE && pending.output == 9, "a text is put out", at);
+        need(kalyubos_guest_take_output(&guest, (uint8_t *)found, sizeof found, &count) == KALYUBOS_DONE, "it is taken", at);
+        need(count == 9 && memcmp(found, TEXT, 9) == 0, "the bytes of a text", at);
+    }
+}
+
+/* Buffers at the ends of both regions: a zero-length one needs its address inside, the end itself included. */
+static void ends_of_regions(void)
+{
+    static const struct { uint64_t at; uint32_t len; bool is_inside; } ROWS[] = {
+        { 0x80000000, 16, true }, { 0x80001ffe, 2, true }, { 0x80001fff, 2, false }, { 0x80002000, 0, true }, { 0x80002001, 0, false },
+        { 0x80002001, 1, false }, { 0x7fffffff, 1, false }, { 0x80000000, 0x10000010, false }, { 0x90000000, 16, true },
+        { 0x8fffffff, 2, false }, { 0x90001fff, 1, true }, { 0x90001fff, 2, false },
+    };
+    for (size_t i = 0; i < sizeof ROWS / sizeof *ROWS; i++) {
+        struct kalyubos_fault fault = { 0 };
+        begin(0);
+        bring_up(KALYUBOS_CONSOLE, VERSION_1, TRANSMIT, USUAL);
+        describe(0, ROWS[i].at, ROWS[i].len, 0);
+        offer(0, 0);
+        need(set(KALYUBOS_CONSOLE, NOTIFY, TRANSMIT) == KALYUBOS_DONE, "a buffer is put out", i);
+        need(kalyubos_guest_last_fault(&guest, KALYUBOS_CONSOLE, &fault) == KALYUBOS_DONE, "a fault", i);
+        need(fault.kind == (ROWS[i].is_inside ? KALYUBOS_NO_FAULT : KALYUBOS_FAULT_RANGE), "whether a buffer lies inside", i);
+        need(get(DEVICE + 2, 2) == ROWS[i].is_inside && pending.output == (ROWS[i].is_inside ? ROWS[i].len : 0), "what is used", i);
+        need(reg(KALYUBOS_CONSOLE, INTERRUPT_STATUS) == (ROWS[i].is_inside ? 1 : 2), "its interrupt", i);
+    }
+}
+
+/* ---- what a driver finds behind a service, and where that stops */
+
+/* Two texts on offer: both are used, or one where the budget is one chain, and then more is due. */
+static void used_buffers_are_shown(void)
+{
+    static const struct { uint32_t chains, answer, used; } ROWS[] = { { 9, KALYUBOS_DONE, 2 }, { 1, KALYUBOS_MORE, 1 } };
+    for (size_t i = 0; i < sizeof ROWS / sizeof *ROWS; i++) {
+        begin(ROWS[i].chains);
+        bring_up(KALYUBOS_CONSOLE, VERSION_1, TRANSMIT, USUAL);
+        describe(0, HEADER, 4, 0);
+        describe(1, HEADER + 8, 8, 0);
+        offer(0, 0);
+        offer(1, 1);
+        need(set(KALYUBOS_CONSOLE, NOTIFY, TRANSMIT) == ROWS[i].answer, "two texts", i);
+        need(reg(KALYUBOS_CONSOLE, INTERRUPT_STATUS) == 1 && get(DEVICE + 2, 2) == ROWS[i].used, "what is shown of them", i);
+    }
+}
+
+/* More heads are on offer than there are descriptors: the fault is noted, without a head. */
+static void a_fault_is_shown_and_noted(void)
+{
+    struct kalyubos_fault fault = { 0 };
+    begin(9);
+    bring_up(KALYUBOS_CONSOLE, VERSION_1, TRANSMIT, USUAL);
+    put(DRIVER + 2, 9, 2);
+    need(set(KALYUBOS_CONSOLE, NOTIFY, TRANSMIT) == KALYUBOS_DONE, "a jump", 9);
+    need(reg(KALYUBOS_CONSOLE, INTERRUPT_STATUS) == 2 && reg(KALYUBOS_CONSOLE, STATUS) == 0x4f, "what is shown of a jump", 9);
+    need(kalyubos_guest_last_fault(&guest, KALYUBOS_CONSOLE, &fault) == KALYUBOS_DONE, "its fault", 9);
+    need(fault.kind == KALYUBOS_FAULT_JUMP && fault.queue == TRANSMIT && fault.head == KALYUBOS_NO_HEAD && fault.place == 0, "the note of a jump", 9);
+}
+
+/* A size of 3 is none of a split queue, which is then not ready (2.7). */
+static void a_queue_that_is_not_ready_is_left(void)
+{
+    struct areas at = USUAL;
+    at.size = 3;
+    begin(9);
+    bring_up(KALYUBOS_CONSOLE, VERSION_1, TRANSMIT, at);
+    describe(0, HEADER, 4, 0);
+    offer(0, 0);
+    need(set(KALYUBOS_CONSOLE, NOTIFY, TRANSMIT) == KALYUBOS_DONE, "a queue of 3", 3);
+    need(reg(KALYUBOS_CONSOLE, INTERRUPT_STATUS) == 0 && get(DEVICE + 2, 2) == 0 && pending.output == 0, "what is shown of it", 3);
+}
+
+/*
+ * The available ring begins 2 bytes behind the used ring, so that the id of used entry 0 stands at the available idx: the used entry of
+ * chain 2 tells one more chain. It is served too, or waits where the budget is one chain.
+ */
+static void a_chain_that_is_offered_meanwhile(void)
+{
+    static const struct { uint32_t chains, answer; uint64_t used; } ROWS[] = {
+        { 9, KALYUBOS_DONE, 0x0000000200020000 }, { 1, KALYUBOS_MORE, 0x0000000200010000 },
+    };
+    for (size_t i = 0; i < sizeof ROWS / sizeof *ROWS; i++) {
+        struct areas at = USUAL;
+        at.driver = DEVICE + 2;
+        begin(ROWS[i].chains);
+        bring_up(KALYUBOS_CONSOLE, VERSION_1, TRANSMIT, at);
+        describe(0, HEADER, 4, 0);
+        describe(2, HEADER + 8, 8, 0);
+        put(DEVICE, 0x0002000100000000, 8);
+        need(set(KALYUBOS_CONSOLE, NOTIFY, TRANSMIT) == ROWS[i].answer, "a chain that tells of another", i);
+        need(get(DEVICE, 8) == ROWS[i].used, "what is used of both", i);
+    }
+}
+
+/*
+ * Each buffer lies over the available idx, and what is typed into it offers the next chain. A service stops behind the sixteenth time;
+ * the next one serves the four that are left.
+ */
+static void chains_that_are_offered_again_and_again(void)
+{
+    enum { CHAINS = 20 };
+    static const struct areas AT = { LONG_SIZE, 0x80000000, 0x80000400, 0x80000600 };
+    uint8_t typed[2 * CHAINS] = { 0 };
+    size_t took = 0;
+    begin(0);
+    bring_up(KALYUBOS_CONSOLE, VERSION_1, RECEIVE, AT);
+    for (uint16_t i = 0; i < CHAINS; i++) {
+        describe(i, AT.driver + 2, 2, WRITE);
+        put(AT.driver + 4 + 2 * i, i, 2);
+        typed[2 * i] = (uint8_t)(i + 2 < CHAINS ? i + 2 : CHAINS);
+    }
+    put(AT.driver + 2, 1, 2);
+    need(kalyubos_guest_input(&guest, typed, sizeof typed, &took, &pending) == KALYUBOS_MORE && took == sizeof typed, "twenty chains, one after another", took);
+    need(get(AT.device + 2, 2) == 16, "sixteen of twenty", get(AT.device + 2, 2));
+    need(kalyubos_guest_go_on(&guest, &pending) == KALYUBOS_DONE && get(AT.device + 2, 2) == CHAINS, "all twenty", get(AT.device + 2, 2));
+}
+
+/* A list of one descriptor, of buffer id 7, is used with both flags of its turn (2.8.1). */
+static void a_list_of_a_packed_ring(void)
+{
+    begin(9);
+    bring_up(KALYUBOS_CONSOLE, VERSION_1 | RING_PACKED, TRANSMIT, USUAL);
+    put(LOW, HEADER, 8);
+    put(LOW + 8, 0x0080000700000004, 8);
+    need(set(KALYUBOS_CONSOLE, NOTIFY, TRANSMIT) == KALYUBOS_DONE && pending.output == 4, "a list", 7);
+    need(get(LOW + 8, 8) == 0x8080000700000000, "a list that is used", get(LOW + 8, 8));
+}
+
+/* Reads of sectors 1 and 3 are in flight at once, and the second is completed first. */
+static void two_reads_are_completed_the_other_way_round(void)
+{
+    static const struct areas AT = { 8, 0x80000000, 0x80000100, 0x80000200 };
+    uint64_t tags = 0;
+    begin(9);
+    bring_up(KALYUBOS_BLOCK, VERSION_1, 0, AT);
+    for (uint16_t i = 0; i < 2; i++) {
+        request(3 * i, HEADER + 16 * i, IN, 1 + 2 * i, HIGH + SECTOR * i, SECTOR, REQUEST_STATUS + 8 * i);
+        offer(i, 3 * i);
+    }
+    need(set(KALYUBOS_BLOCK, NOTIFY, 0) == KALYUBOS_IO, "two reads", 2);
+    need(kalyubos_guest_in_flight(&guest, &tags) == KALYUBOS_DONE && tags == 3, "both are in flight", tags);
+    for (uint8_t tag = 0; tag < 2; tag++) {
+        struct kalyubos_operation it;
+        struct kalyubos_run runs[KALYUBOS_RUNS];
+        need(kalyubos_guest_operation(&guest, tag, &it, runs, KALYUBOS_RUNS) == KALYUBOS_DONE, "the operation of a read", tag);
+        need(it.kind == KALYUBOS_IN && it.start == (tag == 0 ? 512 : 1536) && it.len == SECTOR, "where it reads", tag);
+    }
+    need(kalyubos_guest_completed(&guest, 1, false, &pending) == KALYUBOS_DONE, "the second read", 1);
+    need(kalyubos_guest_completed(&guest, 0, false, &pending) == KALYUBOS_DONE, "the first read", 0);
+    need(get(DEVICE, 8) == 0x0000000300020000 && get(DEVICE + 8, 8) == 0x201 && get(DEVICE + 16, 8) == 0x201, "both used entries", 2);
+    need(get(REQUEST_STATUS, 1) == 0 && get(REQUEST_STATUS + 8, 1) == 0, "both statuses", 2);
+}
+
+int main(void)
+{
+    identities();
+    typed_bytes();
+    a_row_over_two_buffers();
+    headers();
+    texts();
+    ends_of_regions();
+    used_buffers_are_shown();
+    a_fault_is_shown_and_noted();
+    a_queue_that_is_not_ready_is_left();
+    a_chain_that_is_offered_meanwhile();
+    chains_that_are_offered_again_and_again();
+    a_list_of_a_packed_ring();
+    two_reads_are_completed_the_other_way_round();
+    kalyubos_guest_destroy(&guest);
+    puts("racing_rows: which bytes of its words a guest that runs on finds changed, what its queues show, and where a service stops");
+    return 0;
+}
