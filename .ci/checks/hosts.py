@@ -1,5 +1,5 @@
-"""What stays true of the hosts in C: the header has the library's exports, the pages' lines compile, and the parts of examples do
-what their texts say, over a stub of the library, and over the library where it is built."""
+"""What stays true of the hosts in C: the header, the Rust crate and the library's exports are those of one table, the pages' lines
+compile, and the parts of examples do what their texts say, over a stub of the library, and over the library where it is built."""
 import difflib
 import os
 import pathlib
@@ -225,7 +225,7 @@ AGAINST, MODEL = "crates/conformance/against", "crates/conformance/mutants/model
 
 
 CHECKS = {
-    "header": lambda: script(TOP / "examples/embed/check-header"),
+    "header": lambda: script(TOP / "crates/c_values/api/make", "--check"),
     "cpu": lambda: self_test("cpu-test.c", "cpu.c"),
     "virtqueue": lambda: self_test("queue-test.c", "queue.c", "chain.c"),
     "readme": readme,

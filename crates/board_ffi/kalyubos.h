@@ -94,45 +94,47 @@ uint32_t kalyubos_version(void);
 /* What a call answers. */
 enum {
     KALYUBOS_DONE = 0,
-    KALYUBOS_NO_BOARD = 1,          /* the handle is empty */
-    KALYUBOS_HAS_BOARD = 2,         /* the handle holds a board already, and goes on holding it */
-    KALYUBOS_BAD_SLOT = 3,          /* the board has no such slot; nothing changed */
-    KALYUBOS_BAD_RANGE = 4,         /* no region, nor the image, holds all of the range; nothing changed */
-    KALYUBOS_NO_MEMORY = 5,         /* the heap refused; only the calls that make or judge something answer this */
-    KALYUBOS_BAD_WINDOW = 6,        /* the slot has no such window, or no device there takes this; nothing changed */
-    KALYUBOS_BAD_IMAGE = 7,         /* the image isn't whole sectors of 512 bytes */
-    KALYUBOS_NO_SLOTS = 8,          /* a board needs a slot */
-    KALYUBOS_TOO_MANY_SLOTS = 9,    /* a board has sixty-four slots at most */
-    KALYUBOS_BAD_MEMORY_SIZE = 10,  /* a region's size is no multiple of 4096, or with it there are over 2^46 bytes */
-    KALYUBOS_BAD_MEMORY_BASE = 11,  /* a region's base is no multiple of 4096, or the region passes 2^64 */
-    KALYUBOS_EXTENT_OUTSIDE = 12,   /* a slot's sectors pass the image's end, or its disk 2^64 bytes */
-    KALYUBOS_EXTENTS_OVERLAP = 13,  /* two slots share a sector */
-    KALYUBOS_BAD_CACHE = 14,        /* a cache keeps 1 to 65536 sectors */
-    KALYUBOS_NO_ROOM = 15,          /* the console's next output doesn't fit behind what waits; see kalyubos_write */
-    KALYUBOS_BAD_OUTLET = 16,       /* an outlet keeps 2^24 bytes at most */
-    KALYUBOS_BAD_SIZE = 17,         /* a struct says another size than this version's */
-    KALYUBOS_MORE = 18,             /* the slot's service pauses; see kalyubos_go_on, and kalyubos_guest_go_on */
-    KALYUBOS_BUSY = 19,             /* the slot's service is paused, or one of its disks is at work; nothing changed */
-    KALYUBOS_IO = 20,               /* done, and operations began; see kalyubos_in_flight */
-    KALYUBOS_IDLE = 21,             /* there is nothing to complete, drop, hold or release, nor such a place of a queue; nothing
-                                       changed */
-    KALYUBOS_NO_IMAGE = 22,         /* the image has no bytes; nothing changed */
-    KALYUBOS_BAD_SNAPSHOT = 23,     /* the bytes are no snapshot; nothing changed */
-    KALYUBOS_OTHER_SLOT = 24,       /* the snapshot is of a slot of another description; nothing changed */
-    KALYUBOS_BAD_STATE = 25,        /* the snapshot has a state that no driver can bring about; nothing changed */
-    KALYUBOS_SHORT_BUFFER = 26,     /* the snapshot or the frame doesn't fit into the buffer; nothing is written */
-    KALYUBOS_NO_REGIONS = 27,       /* a slot has no region of memory */
+    KALYUBOS_NO_BOARD = 1,           /* the handle is empty */
+    KALYUBOS_HAS_BOARD = 2,          /* the handle holds a board already, and goes on holding it */
+    KALYUBOS_BAD_SLOT = 3,           /* the board has no such slot; nothing changed */
+    KALYUBOS_BAD_RANGE = 4,          /* no region, nor the image, holds all of the range; nothing changed */
+    KALYUBOS_NO_MEMORY = 5,          /* the heap refused; only the calls that make or judge something answer this */
+    KALYUBOS_BAD_WINDOW = 6,         /* the slot has no such window, or no device there takes this; nothing changed */
+    KALYUBOS_BAD_IMAGE = 7,          /* the image isn't whole sectors of 512 bytes */
+    KALYUBOS_NO_SLOTS = 8,           /* a board needs a slot */
+    KALYUBOS_TOO_MANY_SLOTS = 9,     /* a board has sixty-four slots at most */
+    KALYUBOS_BAD_MEMORY_SIZE = 10,   /* a region's size is no multiple of 4096, or with it there are over 2^46 bytes */
+    KALYUBOS_BAD_MEMORY_BASE = 11,   /* a region's base is no multiple of 4096, or the region passes 2^64 */
+    KALYUBOS_EXTENT_OUTSIDE = 12,    /* a slot's sectors pass the image's end, or its disk 2^64 bytes */
+    KALYUBOS_EXTENTS_OVERLAP = 13,   /* two slots share a sector */
+    KALYUBOS_BAD_CACHE = 14,         /* a cache keeps 1 to 65536 sectors */
+    KALYUBOS_NO_ROOM = 15,           /* the console's next output doesn't fit behind what waits; see kalyubos_write */
+    KALYUBOS_BAD_OUTLET = 16,        /* an outlet keeps 2^24 bytes at most */
+    KALYUBOS_BAD_SIZE = 17,          /* a struct says another size than this version's */
+    KALYUBOS_MORE = 18,              /* the slot's service pauses; see kalyubos_go_on, and kalyubos_guest_go_on */
+    KALYUBOS_BUSY = 19,              /* the slot's service is paused, or one of its disks is at work; nothing changed */
+    KALYUBOS_IO = 20,                /* done, and operations began; see kalyubos_in_flight */
+    KALYUBOS_IDLE = 21,              /* there is nothing to complete, drop, hold or release, nor such a place of a
+                                        queue; nothing changed */
+    KALYUBOS_NO_IMAGE = 22,          /* the image has no bytes; nothing changed */
+    KALYUBOS_BAD_SNAPSHOT = 23,      /* the bytes are no snapshot; nothing changed */
+    KALYUBOS_OTHER_SLOT = 24,        /* the snapshot is of a slot of another description; nothing changed */
+    KALYUBOS_BAD_STATE = 25,         /* the snapshot has a state that no driver can bring about; nothing changed */
+    KALYUBOS_SHORT_BUFFER = 26,      /* the snapshot or the frame doesn't fit into the buffer; nothing is written */
+    KALYUBOS_NO_REGIONS = 27,        /* a slot has no region of memory */
     KALYUBOS_REGIONS_NOT_APART = 28, /* a region doesn't begin behind a gap after the one before it */
-    KALYUBOS_BAD_LOAN = 29,         /* the loans have another number or length than the regions, or the bits of
-                                       kalyubos_keep_pages are too few */
-    KALYUBOS_BAD_DEPTH = 30,        /* a disk that the host serves has a depth above 64 */
-    KALYUBOS_OTHER_DEVICES = 31,    /* the snapshot has other further devices than the slot; nothing changed */
-    KALYUBOS_BAD_DEVICE = 32,       /* a further device's kind isn't known, a network card's MTU is below 68, or a disk that the
-                                       host serves has 2^55 sectors or more or a depth above 64; or a guest that runs on has
-                                       one */
-    KALYUBOS_NOT_HOSTED = 33,       /* the host serves the disk of a guest that runs on, which is no extent of an image */
-    KALYUBOS_RUNS_ON = 34,          /* a guest that runs on is on no board; see kalyubos_guest_create */
-    KALYUBOS_BAD_EXTENT = 35        /* a disk over the image has no sectors, one that isn't a spare one, or one that another has */
+    KALYUBOS_BAD_LOAN = 29,          /* the loans have another number or length than the regions, or the bits of
+                                        kalyubos_keep_pages are too few */
+    KALYUBOS_BAD_DEPTH = 30,         /* a disk that the host serves has a depth above 64 */
+    KALYUBOS_OTHER_DEVICES = 31,     /* the snapshot has other further devices than the slot; nothing changed */
+    KALYUBOS_BAD_DEVICE = 32,        /* a further device's kind isn't known, a network card's MTU is below 68, or a disk
+                                        that the host serves has 2^55 sectors or more or a depth above 64; or a guest
+                                        that runs on has one */
+    KALYUBOS_NOT_HOSTED = 33,        /* the host serves the disk of a guest that runs on, which is no extent of an
+                                        image */
+    KALYUBOS_RUNS_ON = 34,           /* a guest that runs on is on no board; see kalyubos_guest_create */
+    KALYUBOS_BAD_EXTENT = 35         /* a disk over the image has no sectors, one that isn't a spare one, or one that
+                                        another has */
 };
 
 /* What an answer says, as a sentence for a person. It is never null: a number of a later version has a sentence too. */
@@ -202,9 +204,10 @@ struct kalyubos_device {
     uint16_t mtu;         /* of a network card: how many bytes a frame has behind its header of Ethernet at most, 68 or
                              more */
     uint8_t mac[6];       /* and its address */
-    uint32_t depth;       /* of a disk that the host serves: how many operations may be in flight, 1 to KALYUBOS_TAGS; 0 is
-                             1 */
-    uint64_t sectors;     /* of a disk of either kind: how many sectors it has, fewer than 2^55; over the image one at least */
+    uint32_t depth;       /* of a disk that the host serves: how many operations may be in flight, 1 to KALYUBOS_TAGS; 0
+                             is 1 */
+    uint64_t sectors;     /* of a disk of either kind: how many sectors it has, fewer than 2^55; over the image one at
+                             least */
     uint64_t start;       /* of a disk over the image: which of the slot's spare sectors is its first, from 0 on */
     uint8_t identity[20]; /* of a disk of either kind: what it answers to GET_ID, as of a slot's disk */
     bool read_only;       /* and whether it refuses writes */
@@ -221,15 +224,15 @@ struct kalyubos_slot {
     struct kalyubos_region regions[KALYUBOS_REGIONS]; /* of its memory: those before the first one of `len` 0 */
     uint64_t start;       /* the first sector of the image that its disk shows; not read where the host serves it */
     uint64_t count;       /* how many sectors its disk has */
-    uint64_t spare;       /* how many sectors of the image behind them are its too, for its further disks over the image; not
-                             read where the host serves its disk */
+    uint64_t spare;       /* how many sectors of the image behind them are its too, for its further disks over the
+                             image; not read where the host serves its disk */
     uint16_t cols;        /* the columns of its console */
     uint16_t rows;        /* and its rows */
     uint32_t outlet;      /* how many bytes of what it puts out may wait to be taken */
     bool read_only;       /* whether its disk refuses writes */
     bool hosted;          /* whether the host serves its disk; else it shows an extent of the image */
-    bool runs;            /* whether its CPUs run on while it is served: kalyubos_create refuses it, whatever its disk, and
-                             kalyubos_guest_create is for it */
+    bool runs;            /* whether its CPUs run on while it is served: kalyubos_create refuses it, whatever its disk,
+                             and kalyubos_guest_create is for it */
     uint8_t identity[20]; /* what its disk answers to GET_ID, a shorter text with NULs behind it; Linux's `serial` */
     uint32_t depth;       /* how many operations may be in flight where the host serves its disk, 1 to KALYUBOS_TAGS; 0
                              is 1. It isn't looked at where the disk is of the image. */
@@ -273,8 +276,9 @@ struct kalyubos_config {
     size_t size;                       /* sizeof(struct kalyubos_config) */
     const struct kalyubos_slot *slots; /* its guests */
     size_t slots_len;
-    struct kalyubos_loan *loans;       /* a loan for each region of all slots, slot by slot, of the region's length; */
-    size_t loans_len;                  /* or none: then the library makes the memory, of zeros */
+    struct kalyubos_loan *loans;       /* a loan for each region of all slots, slot by slot, of the region's length; or
+                                          none: then the library makes the memory, of zeros */
+    size_t loans_len;
     const uint8_t *image;              /* the image, which is copied; of no bytes where the host serves every disk */
     size_t image_len;
     uint32_t cache;                    /* how many sectors a cache before the image keeps at most */
@@ -601,24 +605,22 @@ uint32_t kalyubos_lines(const struct kalyubos *board, uint8_t slot, uint32_t *li
 /* Whether a call of the image ever failed for the slot: never, since the image is in memory, or there is none. */
 uint32_t kalyubos_disturbed(const struct kalyubos *board, uint8_t slot, bool *disturbed);
 
-/*
- * What the slot's devices did since the board was made; told in a pause too, and while something is in flight.
- */
+/* What the slot's devices did since the board was made; told in a pause too, and while something is in flight. */
 uint32_t kalyubos_counters(const struct kalyubos *board, uint8_t slot, struct kalyubos_counters *counters);
 
 /* Why a window asks for a reset (DEVICE_NEEDS_RESET): what is wrong with what its driver wrote. */
 enum {
-    KALYUBOS_NO_FAULT = 0,           /* no fault came yet */
-    KALYUBOS_FAULT_JUMP = 1,         /* more chains on offer than the queue has descriptors (2.7.13.3) */
-    KALYUBOS_FAULT_INDEX = 2,        /* an index of a descriptor outside its table (2.7.5) */
-    KALYUBOS_FAULT_LOOP = 3,         /* a list of descriptors that goes on after as many as its table has (2.7.5.2) */
-    KALYUBOS_FAULT_TOO_MANY = 4,     /* a chain of more than 256 buffers */
-    KALYUBOS_FAULT_TABLE = 5,        /* an indirect table of length 0, no multiple of 16 or above 4096 (2.7.5.3) */
-    KALYUBOS_FAULT_NESTED = 6,       /* an indirect table inside an indirect table (2.7.5.3.1) */
-    KALYUBOS_FAULT_JOINED = 7,       /* an indirect table that is joined to other descriptors (2.7.5.3.1) */
-    KALYUBOS_FAULT_NO_INDIRECT = 8,  /* an indirect table without VIRTIO_F_INDIRECT_DESC (2.7.5.3.1) */
-    KALYUBOS_FAULT_RANGE = 9,        /* a buffer or a table that isn't inside one region of the guest's memory */
-    KALYUBOS_FAULT_TOO_LONG = 10     /* a chain of more than 2^32 - 1 bytes (2.7.5.2) */
+    KALYUBOS_NO_FAULT = 0,          /* no fault came yet */
+    KALYUBOS_FAULT_JUMP = 1,        /* more chains on offer than the queue has descriptors (2.7.13.3) */
+    KALYUBOS_FAULT_INDEX = 2,       /* an index of a descriptor outside its table (2.7.5) */
+    KALYUBOS_FAULT_LOOP = 3,        /* a list of descriptors that goes on after as many as its table has (2.7.5.2) */
+    KALYUBOS_FAULT_TOO_MANY = 4,    /* a chain of more than 256 buffers */
+    KALYUBOS_FAULT_TABLE = 5,       /* an indirect table of length 0, no multiple of 16 or above 4096 (2.7.5.3) */
+    KALYUBOS_FAULT_NESTED = 6,      /* an indirect table inside an indirect table (2.7.5.3.1) */
+    KALYUBOS_FAULT_JOINED = 7,      /* an indirect table that is joined to other descriptors (2.7.5.3.1) */
+    KALYUBOS_FAULT_NO_INDIRECT = 8, /* an indirect table without VIRTIO_F_INDIRECT_DESC (2.7.5.3.1) */
+    KALYUBOS_FAULT_RANGE = 9,       /* a buffer or a table that isn't inside one region of the guest's memory */
+    KALYUBOS_FAULT_TOO_LONG = 10    /* a chain of more than 2^32 - 1 bytes (2.7.5.2) */
 };
 
 /* What `head` is where no head was read. */
@@ -630,8 +632,8 @@ struct kalyubos_fault {
     uint32_t queue; /* the number of the queue, as a notification names it */
     uint32_t head;  /* The index of the chain's first descriptor. In a split queue: the head in the available ring. In a
                        packed one: the position where the list begins. KALYUBOS_NO_HEAD of a JUMP. */
-    uint32_t place; /* The place of that chain. In a split queue: its idx, from 0 to 65535; its entry is `place` modulo the
-                       queue's size. In a packed one: the position, and the queue's size more where the wrap counter
+    uint32_t place; /* The place of that chain. In a split queue: its idx, from 0 to 65535; its entry is `place` modulo
+                       the queue's size. In a packed one: the position, and the queue's size more where the wrap counter
                        is 0. */
 };
 

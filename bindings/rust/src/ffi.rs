@@ -20,19 +20,13 @@ impl Handle {
     }
 }
 
-/// A guest that runs on, or none.
-#[derive(Debug)]
+/// What waits once a call is answered.
+#[derive(Default)]
 #[repr(C)]
-pub struct GuestHandle {
-    guest: *mut c_void,
-}
-
-impl GuestHandle {
-    pub const fn empty() -> GuestHandle {
-        GuestHandle {
-            guest: std::ptr::null_mut(),
-        }
-    }
+pub struct Pending {
+    pub block: u32,
+    pub console: u32,
+    pub output: u64,
 }
 
 /// How many regions the memory of a guest has at most.
@@ -76,25 +70,8 @@ pub struct Slot {
     pub devices: [Device; DEVICES],
 }
 
-/// What waits once a call is answered.
-#[derive(Default)]
-#[repr(C)]
-pub struct Pending {
-    pub block: u32,
-    pub console: u32,
-    pub output: u64,
-}
-
-/// What waits for a further device.
-#[derive(Default)]
-#[repr(C)]
-pub struct DevicePending {
-    pub interrupt: u32,
-    pub starved: bool,
-    pub padding: [u8; 3],
-    pub frame: u64,
-    pub tags: u64,
-}
+/// How many runs an operation has at most.
+pub const RUNS: usize = 256;
 
 /// One operation on a disk.
 #[derive(Default)]
@@ -106,22 +83,6 @@ pub struct Operation {
     pub len: u64,
     pub stable: bool,
 }
-
-/// How many runs an operation has at most.
-pub const RUNS: usize = 256;
-
-/// The last fault of a window.
-#[derive(Default)]
-#[repr(C)]
-pub struct Fault {
-    pub kind: u32,
-    pub queue: u32,
-    pub head: u32,
-    pub place: u32,
-}
-
-/// What `head` is where no head was read.
-pub const NO_HEAD: u32 = u32::MAX;
 
 /// Bytes that the host lends.
 #[repr(C)]
@@ -143,6 +104,45 @@ pub struct Config {
     pub cache: u32,
     pub chains: u32,
     pub bytes: u64,
+}
+
+/// What waits for a further device.
+#[derive(Default)]
+#[repr(C)]
+pub struct DevicePending {
+    pub interrupt: u32,
+    pub starved: bool,
+    pub padding: [u8; 3],
+    pub frame: u64,
+    pub tags: u64,
+}
+
+/// What `head` is where no head was read.
+pub const NO_HEAD: u32 = u32::MAX;
+
+/// The last fault of a window.
+#[derive(Default)]
+#[repr(C)]
+pub struct Fault {
+    pub kind: u32,
+    pub queue: u32,
+    pub head: u32,
+    pub place: u32,
+}
+
+/// A guest that runs on, or none.
+#[derive(Debug)]
+#[repr(C)]
+pub struct GuestHandle {
+    guest: *mut c_void,
+}
+
+impl GuestHandle {
+    pub const fn empty() -> GuestHandle {
+        GuestHandle {
+            guest: std::ptr::null_mut(),
+        }
+    }
 }
 
 /// Words that the host lends.
@@ -185,6 +185,7 @@ unsafe extern "C" {
         value: u32,
         pending: *mut Pending,
     ) -> u32;
+    pub fn kalyubos_go_on(board: *mut Handle, slot: u8, pending: *mut Pending) -> u32;
     pub fn kalyubos_in_flight(board: *const Handle, slot: u8, window: u8, tags: *mut u64) -> u32;
     pub fn kalyubos_operation(
         board: *const Handle,
@@ -207,7 +208,6 @@ unsafe extern "C" {
     pub fn kalyubos_hold(board: *mut Handle, slot: u8, window: u8, pending: *mut Pending) -> u32;
     pub fn kalyubos_release(board: *mut Handle, slot: u8, window: u8, pending: *mut Pending)
         -> u32;
-    pub fn kalyubos_go_on(board: *mut Handle, slot: u8, pending: *mut Pending) -> u32;
     pub fn kalyubos_memory(
         board: *mut Handle,
         slot: u8,
@@ -229,6 +229,7 @@ unsafe extern "C" {
         from: *const u8,
         from_len: usize,
     ) -> u32;
+    pub fn kalyubos_keep_pages(board: *mut Handle, slot: u8, bits: Loan) -> u32;
     pub fn kalyubos_input(
         board: *mut Handle,
         slot: u8,
@@ -304,7 +305,6 @@ unsafe extern "C" {
         window: u8,
         fault: *mut Fault,
     ) -> u32;
-    pub fn kalyubos_keep_pages(board: *mut Handle, slot: u8, bits: Loan) -> u32;
     pub fn kalyubos_saved_len(board: *const Handle, slot: u8, len: *mut usize) -> u32;
     pub fn kalyubos_save(
         board: *const Handle,
