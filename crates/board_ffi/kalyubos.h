@@ -114,8 +114,8 @@ enum {
     KALYUBOS_MORE = 18,              /* the slot's service pauses; see kalyubos_go_on, and kalyubos_guest_go_on */
     KALYUBOS_BUSY = 19,              /* the slot's service is paused, or one of its disks is at work; nothing changed */
     KALYUBOS_IO = 20,                /* done, and operations began; see kalyubos_in_flight */
-    KALYUBOS_IDLE = 21,              /* there is nothing to complete, drop, hold or release, nor such a place of a
-                                        queue; nothing changed */
+    KALYUBOS_IDLE = 21,              /* there is nothing to complete, drop, hold or release, or a queue isn't live or
+                                        has no such place; nothing changed */
     KALYUBOS_NO_IMAGE = 22,          /* the image has no bytes; nothing changed */
     KALYUBOS_BAD_SNAPSHOT = 23,      /* the bytes are no snapshot; nothing changed */
     KALYUBOS_OTHER_SLOT = 24,        /* the snapshot is of a slot of another description; nothing changed */
@@ -360,7 +360,8 @@ uint32_t kalyubos_read(const struct kalyubos *board, uint8_t slot, uint8_t windo
  * NO_ROOM: what the console puts out next, a chain of its transmit queue or the byte of an emergency write, doesn't
  * fit behind what waits in the slot's outlet. The chains before it are served; it is still on offer, and nothing of it
  * is put out. Take the output and make the same write again, as long as it is answered NO_ROOM and there was output to
- * take. With `pending.output` 0 it is longer than the whole outlet, and is never put out. A driver that waits for its buffer doesn't notify again, and Linux's console spins for ever on it.
+ * take. With `pending.output` 0 it is longer than the whole outlet, and is never put out. A driver that waits for its
+ * buffer doesn't notify again, and Linux's console spins for ever on it.
  *
  * Of the window of a disk that the host serves: IO says that the write is done, and that operations began with it, one
  * at least; no other answer says so. BUSY: the write, to Status (0x070) or QueueReady (0x044), waits for all that is in
@@ -837,13 +838,14 @@ uint32_t kalyubos_guest_release(struct kalyubos_guest *guest, struct kalyubos_pe
 
 /*
  * Where a queue of a window stands: the place of its next used entry. Of a split queue it is the used idx; of a packed one the
- * position, and behind it QueueNum where the wrap counter is 0. IDLE: the device may not serve the queue.
+ * position, and behind it QueueNum where the wrap counter is 0. IDLE: the window isn't live (a live one has DRIVER_OK and
+ * FEATURES_OK, and neither FAILED nor DEVICE_NEEDS_RESET), or has no such queue that is ready.
  */
 uint32_t kalyubos_guest_place(const struct kalyubos_guest *guest, uint8_t window, uint16_t queue, uint16_t *place);
 
 /*
  * Puts a queue to the place where another device left it: from there on it is served, once it is notified. BUSY: an operation of
- * it is in flight, or it is due. IDLE: the device may not serve the queue, or a packed one has no such place.
+ * it is in flight, or it is due. IDLE: as kalyubos_guest_place, or the queue is packed and `place` is twice QueueNum or more.
  */
 uint32_t kalyubos_guest_set_place(struct kalyubos_guest *guest, uint8_t window, uint16_t queue, uint16_t place);
 

@@ -22,7 +22,8 @@ pub enum Error {
     Busy,
     /// There is nothing to complete, drop, hold or release; see [`Board::complete`](crate::Board::complete),
     /// [`Board::drop_operations`](crate::Board::drop_operations), [`Board::hold`](crate::Board::hold) and
-    /// [`Board::release`](crate::Board::release).
+    /// [`Board::release`](crate::Board::release). Or a queue isn't live, or has no such place; see
+    /// [`RunningGuest::set_place`](crate::RunningGuest::set_place).
     Idle,
     /// The board has no image, or one of no bytes.
     NoImage,
@@ -206,7 +207,7 @@ impl fmt::Display for Error {
             Error::Busy => {
                 f.write_str("a service of the slot is paused, or one of its disks is at work")
             }
-            Error::Idle => f.write_str("there is nothing to complete, drop, hold or release, nor such a place of a queue"),
+            Error::Idle => f.write_str("there is nothing to complete, drop, hold or release, or the queue isn't live or has no such place"),
             Error::NoImage => f.write_str("the board has no image, or one of no bytes"),
             Error::ShortBuffer => {
                 f.write_str("the buffer is shorter than the snapshot or the frame")

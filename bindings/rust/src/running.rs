@@ -326,7 +326,8 @@ impl RunningGuest {
     }
 
     /// Where a queue of a window stands: the place of its next used entry. Of a split queue it is the used idx; of a packed one
-    /// the position, and behind it the queue's size where the wrap counter is 0. [`Error::Idle`]: the device may not serve it.
+    /// the position, and behind it the queue's size where the wrap counter is 0. [`Error::Idle`]: the window isn't live, or has
+    /// no such queue that is ready.
     pub fn place(&self, window: Window, queue: u16) -> Result<u16, Error> {
         let mut place = 0;
         Error::check(unsafe {
@@ -336,8 +337,8 @@ impl RunningGuest {
     }
 
     /// Puts a queue to the place where another device left it: from there on it is served, once it is notified.
-    /// [`Error::Busy`]: an operation of it is in flight, or it is due. [`Error::Idle`]: the device may not serve it, or a packed
-    /// queue has no such place.
+    /// [`Error::Busy`]: an operation of it is in flight, or it is due. [`Error::Idle`]: as [`place`](RunningGuest::place), or the
+    /// queue is packed and the place is twice its size or more.
     pub fn set_place(&mut self, window: Window, queue: u16, place: u16) -> Result<(), Error> {
         Error::check(unsafe {
             ffi::kalyubos_guest_set_place(&mut self.handle, window.number(), queue, place)

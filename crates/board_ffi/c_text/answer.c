@@ -47,7 +47,7 @@ const char *kalyubos_answer(uint32_t number)
     case KALYUBOS_IO:
         return "done, and operations of the disk began: kalyubos_in_flight says which";
     case KALYUBOS_IDLE:
-        return "there is nothing to complete, drop, hold or release, nor such a place of a queue";
+        return "there is nothing to complete, drop, hold or release, or the queue isn't live or has no such place";
     case KALYUBOS_NO_IMAGE:
         return "the board has no image, or one of no bytes";
     case KALYUBOS_BAD_SNAPSHOT:
