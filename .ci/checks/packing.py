@@ -16,7 +16,7 @@ VERSIONS = {
     "crates/board_ffi/src/version.rt": (r"VERSION: u32 = (\d+);",),
     "crates/board_ffi/specs/Version.antt": (r"^-- (\d+\.\d+\.\d+)$",),
     "crates/calls/src/manual.rt": (r'VERSION: &str = "(.*)";',),
-    "bindings/rust/src/config.rs": (r"const HEADER: u32 = (\d+);",),
+    "bindings/rust/src/ffi.rs": (r"const VERSION: u32 = (\d+);",),
     "bindings/rust/Cargo.toml": (r'^version = "(.*)"$',),
     "bindings/rust/Cargo.lock": (r'^name = "kalyubos"\nversion = "(.*)"$',),
     "examples/embed/rust/Cargo.lock": (r'^name = "kalyubos"\nversion = "(.*)"$',),

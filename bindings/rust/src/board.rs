@@ -3,20 +3,12 @@
 use crate::config::Config;
 use crate::counters::Counters;
 use crate::error::{CreateError, Error};
-use crate::ffi;
+use crate::ffi::answers::{IO, MORE, NO_ROOM};
+use crate::ffi::{self, windows};
 use std::collections::BTreeMap;
 use std::num::{NonZeroU32, NonZeroU64};
 use std::ptr::{self, NonNull};
 use std::slice;
-
-/// The number of an output that finds no room.
-const NO_ROOM: u32 = 15;
-
-/// The number of a service that pauses.
-pub(crate) const MORE: u32 = 18;
-
-/// The number of a call that is done, after which a disk waits for the host.
-const IO: u32 = 20;
 
 /// A guest's windows, each of 4096 bytes.
 #[derive(Clone, Copy, Debug, PartialEq, Eq, Hash)]
@@ -41,9 +33,9 @@ impl Window {
     #[must_use]
     pub fn number(self) -> u8 {
         match self {
-            Window::Block => 0,
-            Window::Console => 1,
-            Window::Device(device) => device.saturating_add(2),
+            Window::Block => windows::BLOCK,
+            Window::Console => windows::CONSOLE,
+            Window::Device(device) => device.saturating_add(windows::DEVICE),
         }
     }
 }

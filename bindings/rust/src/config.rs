@@ -7,9 +7,6 @@ use crate::slot::Slot;
 use std::mem;
 use std::num::{NonZeroU32, NonZeroU64};
 
-/// The version of the header that `ffi` declares.
-const HEADER: u32 = 300;
-
 /// What a board is made of: its guests, and where some have their disks in an image, the image.
 #[derive(Clone, Copy, Debug)]
 #[must_use = "a config is there once a board is made of it"]
@@ -125,7 +122,7 @@ impl<'a> Config<'a> {
 // Whether the library that is linked fits the header.
 pub(crate) fn check_version() -> Result<(), CreateError> {
     let version = unsafe { ffi::kalyubos_version() };
-    if version / 100 != HEADER / 100 {
+    if version / 100 != ffi::VERSION / 100 {
         return Err(CreateError::WrongLibrary(version));
     }
     Ok(())

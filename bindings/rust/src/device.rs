@@ -1,8 +1,9 @@
 //! A slot's further devices: entropy devices, network cards, disks and consoles.
 
-use crate::board::{Board, Window, MORE};
+use crate::board::{Board, Window};
 use crate::error::Error;
-use crate::ffi;
+use crate::ffi::answers::MORE;
+use crate::ffi::{self, device_kinds};
 use crate::identity::Identity;
 use crate::tags::Tags;
 
@@ -55,11 +56,11 @@ impl Device {
     pub(crate) fn in_c(self) -> ffi::Device {
         match self {
             Device::Entropy => ffi::Device {
-                kind: 4,
+                kind: device_kinds::ENTROPY,
                 ..ffi::Device::default()
             },
             Device::Network { mac, mtu } => ffi::Device {
-                kind: 1,
+                kind: device_kinds::NETWORK,
                 mtu,
                 mac,
                 ..ffi::Device::default()
@@ -70,7 +71,7 @@ impl Device {
                 identity,
                 depth,
             } => ffi::Device {
-                kind: 2,
+                kind: device_kinds::DISK,
                 depth,
                 sectors,
                 identity: *identity.bytes(),
@@ -83,7 +84,7 @@ impl Device {
                 read_only,
                 identity,
             } => ffi::Device {
-                kind: 258,
+                kind: device_kinds::IMAGE_DISK,
                 sectors,
                 start,
                 identity: *identity.bytes(),
@@ -91,7 +92,7 @@ impl Device {
                 ..ffi::Device::default()
             },
             Device::Console { cols, rows } => ffi::Device {
-                kind: 3,
+                kind: device_kinds::CONSOLE_DEVICE,
                 cols,
                 rows,
                 ..ffi::Device::default()

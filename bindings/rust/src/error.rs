@@ -1,6 +1,7 @@
 //! Why a call was refused.
 
 use crate::board::Pending;
+use crate::ffi::answers;
 use std::error;
 use std::fmt;
 
@@ -135,15 +136,15 @@ impl Error {
     /// What the number of an answer says.
     pub(crate) fn check(number: u32) -> Result<(), Error> {
         match number {
-            0 => Ok(()),
-            3 => Err(Error::BadSlot),
-            4 => Err(Error::BadRange),
-            6 => Err(Error::BadDevice),
-            19 => Err(Error::Busy),
-            21 => Err(Error::Idle),
-            22 => Err(Error::NoImage),
-            26 => Err(Error::ShortBuffer),
-            29 => Err(Error::TooFewPages),
+            answers::DONE => Ok(()),
+            answers::BAD_SLOT => Err(Error::BadSlot),
+            answers::BAD_RANGE => Err(Error::BadRange),
+            answers::BAD_WINDOW => Err(Error::BadDevice),
+            answers::BUSY => Err(Error::Busy),
+            answers::IDLE => Err(Error::Idle),
+            answers::NO_IMAGE => Err(Error::NoImage),
+            answers::SHORT_BUFFER => Err(Error::ShortBuffer),
+            answers::BAD_LOAN => Err(Error::TooFewPages),
             number => Err(Error::Other(number)),
         }
     }
@@ -153,13 +154,13 @@ impl RestoreError {
     /// What the number of restore's answer says.
     pub(crate) fn check(number: u32) -> Result<(), RestoreError> {
         match number {
-            0 => Ok(()),
-            3 => Err(RestoreError::BadSlot),
-            19 => Err(RestoreError::Busy),
-            23 => Err(RestoreError::BadSnapshot),
-            24 => Err(RestoreError::OtherSlot),
-            25 => Err(RestoreError::BadState),
-            31 => Err(RestoreError::OtherDevices),
+            answers::DONE => Ok(()),
+            answers::BAD_SLOT => Err(RestoreError::BadSlot),
+            answers::BUSY => Err(RestoreError::Busy),
+            answers::BAD_SNAPSHOT => Err(RestoreError::BadSnapshot),
+            answers::OTHER_SLOT => Err(RestoreError::OtherSlot),
+            answers::BAD_STATE => Err(RestoreError::BadState),
+            answers::OTHER_DEVICES => Err(RestoreError::OtherDevices),
             number => Err(RestoreError::Other(number)),
         }
     }
@@ -170,24 +171,24 @@ impl CreateError {
     pub(crate) fn check(number: u32) -> Result<(), CreateError> {
         use CreateError::*;
         Err(match number {
-            0 => return Ok(()),
-            5 => NoMemory,
-            7 => BadImage,
-            8 => NoSlots,
-            9 => TooManySlots,
-            10 => BadMemorySize,
-            11 => BadMemoryBase,
-            12 => ExtentOutside,
-            13 => ExtentsOverlap,
-            14 => BadCache,
-            16 => BadOutlet,
-            17 => BadSize,
-            28 => RegionsNotApart,
-            29 => BadLoan,
-            30 => BadDepth,
-            32 => BadDevice,
-            33 => NotHosted,
-            35 => BadExtent,
+            answers::DONE => return Ok(()),
+            answers::NO_MEMORY => NoMemory,
+            answers::BAD_IMAGE => BadImage,
+            answers::NO_SLOTS => NoSlots,
+            answers::TOO_MANY_SLOTS => TooManySlots,
+            answers::BAD_MEMORY_SIZE => BadMemorySize,
+            answers::BAD_MEMORY_BASE => BadMemoryBase,
+            answers::EXTENT_OUTSIDE => ExtentOutside,
+            answers::EXTENTS_OVERLAP => ExtentsOverlap,
+            answers::BAD_CACHE => BadCache,
+            answers::BAD_OUTLET => BadOutlet,
+            answers::BAD_SIZE => BadSize,
+            answers::REGIONS_NOT_APART => RegionsNotApart,
+            answers::BAD_LOAN => BadLoan,
+            answers::BAD_DEPTH => BadDepth,
+            answers::BAD_DEVICE => BadDevice,
+            answers::NOT_HOSTED => NotHosted,
+            answers::BAD_EXTENT => BadExtent,
             number => Other(number),
         })
     }

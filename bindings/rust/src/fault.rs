@@ -2,7 +2,7 @@
 
 use crate::board::{Board, Window};
 use crate::error::Error;
-use crate::ffi;
+use crate::ffi::{self, faults};
 use std::fmt;
 
 /// What is wrong with what a guest's driver wrote into a queue. The sections are of VIRTIO 1.2.
@@ -85,17 +85,17 @@ impl FaultKind {
     fn of(number: u32) -> Option<FaultKind> {
         use FaultKind::*;
         Some(match number {
-            0 => return None,
-            1 => Jump,
-            2 => Index,
-            3 => Loop,
-            4 => TooMany,
-            5 => Table,
-            6 => Nested,
-            7 => Joined,
-            8 => NoIndirect,
-            9 => Range,
-            10 => TooLong,
+            faults::NO_FAULT => return None,
+            faults::FAULT_JUMP => Jump,
+            faults::FAULT_INDEX => Index,
+            faults::FAULT_LOOP => Loop,
+            faults::FAULT_TOO_MANY => TooMany,
+            faults::FAULT_TABLE => Table,
+            faults::FAULT_NESTED => Nested,
+            faults::FAULT_JOINED => Joined,
+            faults::FAULT_NO_INDIRECT => NoIndirect,
+            faults::FAULT_RANGE => Range,
+            faults::FAULT_TOO_LONG => TooLong,
             number => Other(number),
         })
     }

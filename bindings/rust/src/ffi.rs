@@ -5,6 +5,58 @@ use crate::operation::Run;
 use crate::slot::Region;
 use std::ffi::c_void;
 
+/// The version of this header, 0.3.0: 10000 for each major version, 100 for each minor one, and the patch.
+pub const VERSION: u32 = 300;
+
+/// What a call answers.
+#[allow(dead_code)]
+pub mod answers {
+    pub const DONE: u32 = 0;
+    pub const NO_BOARD: u32 = 1;
+    pub const HAS_BOARD: u32 = 2;
+    pub const BAD_SLOT: u32 = 3;
+    pub const BAD_RANGE: u32 = 4;
+    pub const NO_MEMORY: u32 = 5;
+    pub const BAD_WINDOW: u32 = 6;
+    pub const BAD_IMAGE: u32 = 7;
+    pub const NO_SLOTS: u32 = 8;
+    pub const TOO_MANY_SLOTS: u32 = 9;
+    pub const BAD_MEMORY_SIZE: u32 = 10;
+    pub const BAD_MEMORY_BASE: u32 = 11;
+    pub const EXTENT_OUTSIDE: u32 = 12;
+    pub const EXTENTS_OVERLAP: u32 = 13;
+    pub const BAD_CACHE: u32 = 14;
+    pub const NO_ROOM: u32 = 15;
+    pub const BAD_OUTLET: u32 = 16;
+    pub const BAD_SIZE: u32 = 17;
+    pub const MORE: u32 = 18;
+    pub const BUSY: u32 = 19;
+    pub const IO: u32 = 20;
+    pub const IDLE: u32 = 21;
+    pub const NO_IMAGE: u32 = 22;
+    pub const BAD_SNAPSHOT: u32 = 23;
+    pub const OTHER_SLOT: u32 = 24;
+    pub const BAD_STATE: u32 = 25;
+    pub const SHORT_BUFFER: u32 = 26;
+    pub const NO_REGIONS: u32 = 27;
+    pub const REGIONS_NOT_APART: u32 = 28;
+    pub const BAD_LOAN: u32 = 29;
+    pub const BAD_DEPTH: u32 = 30;
+    pub const OTHER_DEVICES: u32 = 31;
+    pub const BAD_DEVICE: u32 = 32;
+    pub const NOT_HOSTED: u32 = 33;
+    pub const RUNS_ON: u32 = 34;
+    pub const BAD_EXTENT: u32 = 35;
+}
+
+/// A slot's windows, each of 4096 bytes.
+#[allow(dead_code)]
+pub mod windows {
+    pub const BLOCK: u8 = 0;
+    pub const CONSOLE: u8 = 1;
+    pub const DEVICE: u8 = 2;
+}
+
 /// A board, or none.
 #[derive(Debug)]
 #[repr(C)]
@@ -31,6 +83,17 @@ pub struct Pending {
 
 /// How many regions the memory of a guest has at most.
 pub const REGIONS: usize = 8;
+
+/// The kinds of further devices, by the standard's device IDs (5), but for the last.
+#[allow(dead_code)]
+pub mod device_kinds {
+    pub const NO_DEVICE: u32 = 0;
+    pub const NETWORK: u32 = 1;
+    pub const DISK: u32 = 2;
+    pub const CONSOLE_DEVICE: u32 = 3;
+    pub const ENTROPY: u32 = 4;
+    pub const IMAGE_DISK: u32 = 258;
+}
 
 /// How many further devices a slot has at most.
 pub const DEVICES: usize = 6;
@@ -68,6 +131,15 @@ pub struct Slot {
     pub identity: [u8; 20],
     pub depth: u32,
     pub devices: [Device; DEVICES],
+}
+
+/// What is wanted of a disk that the host serves.
+#[allow(dead_code)]
+pub mod operations {
+    pub const IN: u32 = 0;
+    pub const OUT: u32 = 1;
+    pub const FLUSH: u32 = 2;
+    pub const ZEROES: u32 = 3;
 }
 
 /// How many runs an operation has at most.
@@ -115,6 +187,22 @@ pub struct DevicePending {
     pub padding: [u8; 3],
     pub frame: u64,
     pub tags: u64,
+}
+
+/// Why a window asks for a reset (DEVICE_NEEDS_RESET): what is wrong with what its driver wrote.
+#[allow(dead_code)]
+pub mod faults {
+    pub const NO_FAULT: u32 = 0;
+    pub const FAULT_JUMP: u32 = 1;
+    pub const FAULT_INDEX: u32 = 2;
+    pub const FAULT_LOOP: u32 = 3;
+    pub const FAULT_TOO_MANY: u32 = 4;
+    pub const FAULT_TABLE: u32 = 5;
+    pub const FAULT_NESTED: u32 = 6;
+    pub const FAULT_JOINED: u32 = 7;
+    pub const FAULT_NO_INDIRECT: u32 = 8;
+    pub const FAULT_RANGE: u32 = 9;
+    pub const FAULT_TOO_LONG: u32 = 10;
 }
 
 /// What `head` is where no head was read.

@@ -1,6 +1,6 @@
 //! What a disk is asked for that the host serves, and what came of it.
 
-use crate::ffi;
+use crate::ffi::{self, operations};
 use std::fmt;
 use std::ops::Deref;
 use std::slice;
@@ -102,9 +102,13 @@ pub enum Outcome {
 impl Kind {
     // The kind of a number, where it has one.
     fn of(number: u32) -> Option<Kind> {
-        [Kind::In, Kind::Out, Kind::Flush, Kind::Zeroes]
-            .get(number as usize)
-            .copied()
+        Some(match number {
+            operations::IN => Kind::In,
+            operations::OUT => Kind::Out,
+            operations::FLUSH => Kind::Flush,
+            operations::ZEROES => Kind::Zeroes,
+            _ => return None,
+        })
     }
 }
 

@@ -1,6 +1,6 @@
 """ffi.rs of bindings/rust, as the table has it: in the form of rustfmt."""
 from header import first_sentence
-from table import Call, Constant, Struct
+from table import Call, Constant, Numbers, Struct
 
 # The longest line of rustfmt.
 WIDTH = 100
@@ -26,6 +26,8 @@ def binding(table):
     for entry in (entry for section in table.section for entry in section.entry):
         if isinstance(entry, Constant) and entry.type:
             parts.append(f"\n/// {first_sentence(entry.text)}\npub const {entry.constant}: {entry.type} = {number(entry)};\n")
+        elif isinstance(entry, Numbers):
+            parts.append(module(entry))
         elif isinstance(entry, Struct) and not (entry.only_c or entry.mirror):
             parts.append(struct(entry))
     calls = [declared(call) for call in table.all(Call) if call.of != "C"]
@@ -34,6 +36,12 @@ def binding(table):
 
 def number(constant):
     return "u32::MAX" if constant.number == 0xffffffff else constant.number
+
+
+def module(entry):
+    """A list of numbers, of which the crate uses those that it knows."""
+    rows = "".join(f"    pub const {row.name}: {entry.type} = {row.number};\n" for row in entry.rows)
+    return f"\n/// {first_sentence(entry.text)}\n#[allow(dead_code)]\npub mod {entry.numbers} {{\n{rows}}}\n"
 
 
 def struct(entry):
