@@ -63,6 +63,8 @@
  * kalyubos_guest_destroy do so for a guest that runs on. kalyubos_judge takes some, and gives it back before it answers.
  * No other call takes or gives any, so no guest can be refused memory for what another did: what a guest sees is decided
  * by its own slot's calls alone, those for its disk among them.
+ *
+ * crates/c_values/api/make makes this file of a table.
  */
 #ifndef KALYUBOS_H
 #define KALYUBOS_H

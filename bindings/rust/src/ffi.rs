@@ -1,4 +1,5 @@
-//! The declarations of `kalyubos.h`, which says what each call does and what its caller must keep.
+//! The declarations of `kalyubos.h`, which says what each call does and what its caller must keep. `crates/c_values/api/make` makes
+//! them of a table.
 
 use crate::counters::Counters;
 use crate::operation::Run;

@@ -1,4 +1,4 @@
-/* What an answer says, as a sentence for a person. */
+/* What an answer says, as a sentence for a person. Made by crates/c_values/api/make. */
 #include "kalyubos.h"
 
 const char *kalyubos_answer(uint32_t number)

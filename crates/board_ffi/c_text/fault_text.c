@@ -1,4 +1,4 @@
-/* What a fault is, as a sentence for a person. */
+/* What a fault is, as a sentence for a person. Made by crates/c_values/api/make. */
 #include "kalyubos.h"
 
 const char *kalyubos_fault_text(uint32_t kind)

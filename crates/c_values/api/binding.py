@@ -5,7 +5,10 @@ from table import Call, Constant, Numbers, Struct
 # The longest line of rustfmt.
 WIDTH = 100
 
-FRONT = "//! The declarations of `kalyubos.h`, which says what each call does and what its caller must keep.\n\n"
+FRONT = """//! The declarations of `kalyubos.h`, which says what each call does and what its caller must keep. `crates/c_values/api/make` makes
+//! them of a table.
+
+"""
 
 EMPTY = """
 impl {name} {{

@@ -145,7 +145,7 @@ def in_returns(written, names):
     return f"const {names[found[2]]} *" if found[1] else f"{names[found[2]]} "
 
 
-SENTENCES = """/* {first} */
+SENTENCES = """/* {first} Made by crates/c_values/api/make. */
 #include "kalyubos.h"
 
 {call}
