@@ -185,7 +185,7 @@ peer:
 mutants:
 	@crates/conformance/mutants/run
 
-# Has the prover judge the wrong bodies of crates/*/planted, which it must refuse by what each names: when a contract changed. It
+# Has the prover judge the wrong bodies of crates/*/planted.edits, which it must refuse by what each names: when a contract changed. It
 # wants the libraries that make test leaves.
 planted:
 	@.ci/planted

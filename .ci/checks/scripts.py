@@ -61,11 +61,12 @@ def edits():
     ran = called(TOP / ".ci/planted", "--list")
     if ran.returncode:
         return False, (ran.stdout + ran.stderr).splitlines()
-    there = {path.stem for path in TOP.glob("crates/*/*/*.edit")}
+    planted = ran.stdout.splitlines()
+    there = {path.stem for path in TOP.glob("crates/*/must-fail/*.edit")} | {edit.partition("/")[2] for edit in planted}
     text = (TOP / "docs/CHANGING.md").read_text(encoding="utf-8").partition("### Wrong bodies, and what refuses them")[2].partition("\n## ")[0]
     named = {name for row in re.findall(r"^\|.*\|(.*)\|$", text, re.MULTILINE) for name in re.findall(r"`(\w+)`", row)}
     wrong = [f"docs/CHANGING.md names {name}, which is no edit" for name in sorted(named - there)]
-    return not wrong, wrong or [f"{len(ran.stdout.splitlines())} planted edits stand in their sources, {len(named)} are in the tables"]
+    return not wrong, wrong or [f"{len(planted)} planted edits stand in their sources, {len(named)} are in the tables"]
 
 
 CHECKS = {"helps": helps, "shorten": shorten, "edits": edits}
