@@ -5,9 +5,14 @@ writes down which answers its own driver relies on: that its disk gives back wha
 arrives, and that what it transmits comes out. It notes too at which event it reads the status of which request. A
 hostile guest runs the same drivers, but twists what they write into memory, and does mischief between their steps.
 """
+import os
 import random
+import sys
 from collections import namedtuple
 
+sys.path.append(os.path.join(os.path.dirname(os.path.dirname(os.path.abspath(__file__))), "crates", "conformance", "mutants"))
+
+import trace_text
 from probes import Probes
 from queues import AREAS, INDIRECT, PackedQueue, SplitQueue
 
@@ -19,16 +24,22 @@ class Slot(namedtuple("Slot", "base length start count read_only columns rows id
         """All regions of the memory, in ascending order."""
         return sorted([(self.base, self.length), *self.others])
 
+    def mode(self):
+        return "ro" if self.read_only else "rw"
+
     def fields(self, disk="image"):
         """What the small model makes a slot of."""
         (base, length), *others = self.regions()
-        mode = "ro" if self.read_only else "rw"
-        return [disk, base, length, self.start, self.count, mode, self.columns, self.rows, self.identity, *others]
+        return [disk, base, length, self.start, self.count, self.mode(), self.columns, self.rows, self.identity, *others]
+
+    def line(self, first_line, disk):
+        """Its line in a trace with this first line."""
+        return trace_text.slot_line(first_line, self.regions(), disk, self.start, self.count, self.mode(), self.columns, self.rows,
+                                    identity=self.identity)
 
     def ends(self):
         """Where each region begins and ends."""
         return [at for base, length in self.regions() for at in (base, base + length)]
-
 
 
 # What a board offers its drivers: the low word of each window's features, and the high word of both; and the low words of an entropy
@@ -72,6 +83,21 @@ class Event(namedtuple("Event", "word fields")):
 
     meant, begins = None, ""
 
+    @classmethod
+    def of(cls, line):
+        """An event by its line, whichever slot that names."""
+        word, _, *fields = line.split(" ")
+        return cls(word, " ".join(fields))
+
+    def line(self):
+        """Its line in a trace of its guest alone, with the fields by their names."""
+        return trace_text.Line([self.word, "0", *self.fields.split()])
+
+    def writes(self, window, *offsets):
+        """Whether it is a write of one of these registers of a window."""
+        line = self.line() if self.word == "w" else {}
+        return "offset" in line and line["window"] == window and line["offset"] in offsets
+
 
 class Guest:
     """What one guest does: its events in their order."""
@@ -100,10 +126,10 @@ class Guest:
         """The drivers of its disks over spare sectors."""
         return [driver for driver in self.further if driver.IS_OVER_IMAGE]
 
-    def is_apart(self, word, fields):
+    def is_apart(self, event):
         """Whether an event concerns nothing but further devices and their drivers' region."""
         first, length = self.apart
-        return word in FURTHER_WORDS or word in ("mr", "mw") and first <= int(fields.split()[0], 16) < first + length
+        return event.word in FURTHER_WORDS or event.word in ("mr", "mw") and first <= event.line()["address"] < first + length
 
     def do(self, word, fields, reply=None, output="-"):
         """Writes an event down, and the reply that the guest relies on, where it does."""

@@ -3,17 +3,14 @@
 The suite's small model says which operations there are. When the host does one, which one of those in flight, how much of it, and
 whether it fails come of dice: what it reads into memory are `mw` lines, and a completion is an `io` line.
 """
-import os
 import random
-import sys
 
-sys.path.insert(0, os.path.join(os.path.dirname(os.path.dirname(os.path.abspath(__file__))), "crates", "conformance", "mutants"))
-import model
 from guests import Event
+import model
 
 # Before how many of the guest's events an operation is completed. Mostly it is before the next notify: a driver that never waits fills its ring.
 DELAYS = [0, 1, 2, 3, 5, 20, 60]
-NOTIFY = "b 050 "
+NOTIFY = 0x050
 # Before how many of the guest's events a slot that a late host holds is released.
 HOLDS = [0, 1, 2, 5, 20]
 # How often the host holds the slot over a notify, where it isn't late; and holds it, and drops what is in flight, where it is.
@@ -44,11 +41,10 @@ class Host:
         nothing of its disk and its console."""
         expected = {}
         for number, event in enumerate(self.guest.events):
-            word, fields = event
-            if self.guest.is_apart(word, fields):
+            if self.guest.is_apart(event):
                 self.pass_on(event, self.guest.expected.get(number), expected)
                 continue
-            is_notify = word == "w" and fields.startswith(NOTIFY)
+            is_notify = event.writes("b", NOTIFY)
             if is_notify and self.dice.random() < self.patience:
                 self.complete_all()
             is_brief = is_notify and not self.is_late and self.said.random() < BRIEFLY
@@ -56,9 +52,9 @@ class Host:
                 self.do("hold")
             if number in self.guest.expected and not self.is_late:
                 expected[len(self.events)] = self.guest.expected[number]
-            if self.do(word, fields).startswith("busy ") and self.dice.random() < 0.9:
+            if self.do(*event).startswith("busy ") and self.dice.random() < 0.9:
                 self.complete_all()
-                self.do(word, fields)
+                self.do(*event)
             if is_brief:
                 self.do("release")
             while self.flights() and self.due == 0:
@@ -92,8 +88,9 @@ class Host:
 
     def do(self, word, fields=""):
         """Writes an event down; its record."""
-        record = model.hosted_record_of(self.board, word, ["0", *fields.split()]).partition(" ")[2]
-        self.events.append(Event(word, fields))
+        event = Event(word, fields)
+        record = model.hosted_record_of(self.board, word, event.line().words[1:]).partition(" ")[2]
+        self.events.append(event)
         self.told.append(record)
         if not record.endswith(" -"):
             self.due = self.dice.choice(DELAYS) if self.is_late else 0

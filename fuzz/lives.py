@@ -10,7 +10,7 @@ sys.path.append(os.path.join(os.path.dirname(os.path.dirname(os.path.abspath(__f
 
 from guests import Event
 from matrix import actions, follows, histories, saved
-from reader import EXTENDED, FIRST_LINES
+from trace_text import EXTENDED, FIRST_LINES
 from scene import Scene
 
 GUESTS, PAIRS = 3, 3
@@ -73,7 +73,7 @@ class Lives(Scene):
         dice, pairs = random.Random(f"lives {self.seed} {self.number}"), chosen(self.seed, self.number)
         life = follows.Life("", "", lambda one: lives(one, dice, pairs), [slot_of(guest.slot)], image=disk)
         life.files()
-        guest.events = [Event(word, fields) for word, _, fields in (line.split(" ", 2) for line in life.lines)]
+        guest.events = [Event.of(line) for line in life.lines]
         guest.told = [record.partition(" ")[2] for record in life.records]
         guest.disk = bytearray(life.disk.bytes)
         self.met += pairs

@@ -3,7 +3,7 @@ import re
 
 NUM = "(?:0|[1-9a-f][0-9a-f]*)"
 ASKED = re.compile(f"({NUM})=(in|out|out-stable|flush|zeroes|zeroes-stable):({NUM}):({NUM}):(-|{NUM}[+]{NUM}(?:,{NUM}[+]{NUM})*)")
-NOTIFY, WAITING = "b 050 4 ", ("b 044 ", "b 070 ")
+NOTIFY, WAITING = 0x050, (0x044, 0x070)
 MOST_RUNS = 256
 # The byte of a snapshot that says whether the slot is held.
 HELD = 61
@@ -18,21 +18,21 @@ class Wrong(Exception):
 def without_operations(slot, depth, events, records, is_sane):
     """A guest's records without their sixth fields, which are judged; and how many operations began."""
     plain, count, taken, held = [], 0, set(), False
-    for number, ((word, fields), record) in enumerate(zip(events, records)):
+    for number, (event, record) in enumerate(zip(events, records)):
         rest, _, asked = record.rpartition(" ")
         reply = rest.partition(" ")[0]
         try:
-            asked = without_further(slot, events[number], asked, is_sane)
-            check_reply(word, fields, reply, taken, held)
-            if (word, reply) == ("io", "done"):
-                taken.discard(tag_of(fields))
-            if (word, reply) == ("drop", "done"):
+            asked = without_further(slot, event, asked, is_sane)
+            check_reply(event, reply, taken, held)
+            if (event.word, reply) == ("io", "done"):
+                taken.discard(event.line()["tag"])
+            if (event.word, reply) == ("drop", "done"):
                 taken.clear()
-            held = held_after(word, fields, reply, held)
+            held = held_after(event, reply, held)
             began = [check_operation(slot, one, 512 * slot.count) for one in asked.split(";")] if asked != "-" else []
-            check_asking(word, fields, reply, began, held, [tag for tag in range(depth) if tag not in taken])
+            check_asking(event, reply, began, held, [tag for tag in range(depth) if tag not in taken])
         except Wrong as wrong:
-            raise Wrong(f"event {number}, {word} {fields}"[:120] + f": {record[:100]}: {wrong}") from None
+            raise Wrong(f"event {number}, {' '.join(event)}"[:120] + f": {record[:100]}: {wrong}") from None
         taken.update(began)
         count += len(began)
         plain.append(rest)
@@ -53,31 +53,27 @@ def without_further(slot, event, asked, is_sane):
     return ";".join(own) or "-"
 
 
-def tag_of(fields):
-    """The tag that a completion names."""
-    return int(fields.partition(" ")[0], 16)
-
-
-def held_after(word, fields, reply, held):
+def held_after(event, reply, held):
     """Whether the slot is held behind an event."""
-    if (word, reply) == ("st", "done"):
-        return bytes.fromhex(fields)[HELD] == 1
-    return word == "hold" or held and word != "release"
+    if (event.word, reply) == ("st", "done"):
+        return event.line()["content"][HELD] == 1
+    return event.word == "hold" or held and event.word != "release"
 
 
-def check_reply(word, fields, reply, taken, held):
+def check_reply(event, reply, taken, held):
     """What the host says is idle just where there is nothing to do, and just those writes wait that must."""
-    there_is = {"io": lambda: tag_of(fields) in taken, "drop": lambda: bool(taken), "hold": lambda: not held, "release": lambda: held}
-    if word in there_is and reply != ("done" if there_is[word]() else "idle"):
+    there_is = {"io": lambda: event.line()["tag"] in taken, "drop": lambda: bool(taken), "hold": lambda: not held, "release": lambda: held}
+    if event.word in there_is and reply != ("done" if there_is[event.word]() else "idle"):
         raise Wrong(f"in flight are {sorted(taken)}, and it is {'held' if held else 'not held'}")
-    waits = bool(taken) and (word == "st" or word == "w" and fields.startswith(WAITING))
-    if (reply == "busy") != waits and word != "dw":
+    waits = bool(taken) and (event.word == "st" or event.writes("b", *WAITING))
+    if (reply == "busy") != waits and event.word != "dw":
         raise Wrong(f"it should wait: {waits}")
 
 
-def check_asking(word, fields, reply, began, held, free):
+def check_asking(event, reply, began, held, free):
     """Operations begin with a notify, a completion or a release, none while the slot is held, and take the lowest free tags."""
-    begins = word == "w" and fields.startswith(NOTIFY) or (word, reply) in (("io", "done"), ("release", "done"))
+    notifies = event.writes("b", NOTIFY) and event.line()["width"] == 4
+    begins = notifies or (event.word, reply) in (("io", "done"), ("release", "done"))
     if began and (held or not begins):
         raise Wrong("no operation begins here")
     if began != free[:len(began)]:

@@ -1,6 +1,8 @@
 """What plugs give a guest, judged by the records alone: each is answered by what it says and what the guest has, and so is known which
 sectors of the image are whose.
 """
+from trace_text import parts_of_kind
+
 MOST_DEVICES, LEAST_MTU, MOST_DEPTH, MOST_SECTORS = 6, 68, 64, (1 << 55) - 1
 
 
@@ -19,31 +21,32 @@ class Plugs:
         are_apart = all(place + count <= first or first + size <= place for first, size, _ in self.runs)
         return count > 0 and place + count <= self.spare and are_apart
 
-    def is_kind(self, kind, fields):
+    def is_kind(self, plug):
         """Whether there is such a device."""
-        if kind == "image":
-            return self.are_free(int(fields[0], 16), int(fields[1], 16))
-        if kind == "disk":
-            return int(fields[0], 16) <= MOST_SECTORS and 1 <= int(fields[3], 16) <= MOST_DEPTH
-        return not kind.startswith("network:") or int(kind.rpartition(":")[2], 16) >= LEAST_MTU
+        name, *numbers = parts_of_kind(plug["kind"])
+        if name == "image":
+            return self.are_free(plug["place"], plug["count"])
+        if name == "disk":
+            return plug["sectors"] <= MOST_SECTORS and 1 <= plug["depth"] <= MOST_DEPTH
+        return name != "network" or numbers[-1] >= LEAST_MTU
 
-    def plug(self, fields, reply):
-        number, kind, *rest = fields.split()
-        is_good = int(number, 16) == self.count < MOST_DEVICES and self.is_kind(kind, rest)
+    def plug(self, event, reply):
+        plug = event.line()
+        is_good = plug["device"] == self.count < MOST_DEVICES and self.is_kind(plug)
         if (reply == "baddevice") == is_good:
-            raise Wrong(f"plug {fields} is answered {reply}; the guest has {self.count} devices, and of {self.spare} spare sectors disks "
-                        f"have {self.runs}")
+            raise Wrong(f"plug {event.fields} is answered {reply}; the guest has {self.count} devices, and of {self.spare} spare sectors "
+                        f"disks have {self.runs}")
         if reply == "done":
             self.count += 1
-            self.runs += [(int(rest[0], 16), int(rest[1], 16), rest[2] == "rw")] if kind == "image" else []
+            self.runs += [(plug["place"], plug["count"], plug["mode"] == "rw")] if plug["kind"] == "image" else []
 
 
 def plugs_of(guest, records):
     """The further devices that a guest has after its events."""
     plugs = Plugs(guest.spare)
-    for (word, fields), record in zip(guest.events, records):
-        if word == "plug":
-            plugs.plug(fields, record.partition(" ")[0])
+    for event, record in zip(guest.events, records):
+        if event.word == "plug":
+            plugs.plug(event, record.partition(" ")[0])
     return plugs
 
 

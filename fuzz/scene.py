@@ -7,7 +7,7 @@ from further_disks import DiskDriver
 from guests import IDENTITY_TEXT, MEMORIES, SECTOR, Guest, Slot, live
 from host import Host, complete_nothing
 from image_disks import SPARES, ImageDisk
-from reader import EXTENDED, FIRST, FIRST_LINES
+from trace_text import EXTENDED, FIRST, FIRST_LINES
 
 BASES = [0x80000000, 0x80000000, 0, 0x40000000, (1 << 64) - 0x10000]
 CACHES = [1, 2, 3, 8, 65536]
@@ -142,7 +142,7 @@ class Scene:
         return self.text(self.first_line, self.cache, [guest], [self.event(guest, number, 0) for number in range(count)])
 
     def text(self, first_line, cache, guests, events):
-        slots = [slot_line(guest.slot, first_line, guest.disk_field()) for guest in map(self.guests.__getitem__, guests)]
+        slots = [guest.slot.line(first_line, guest.disk_field()) for guest in map(self.guests.__getitem__, guests)]
         return "\n".join([first_line, f"cache {cache:x}"] + slots + events) + "\n"
 
     def event(self, guest, number, slot):
@@ -153,11 +153,3 @@ class Scene:
         """The sectors that an image has otherwise than the one of before."""
         sectors = range(0, len(after), SECTOR)
         return {at // SECTOR for at in sectors if after[at:at + SECTOR] != self.image[at:at + SECTOR]}
-
-
-def slot_line(slot, first_line, disk="image"):
-    mode = "ro" if slot.read_only else "rw"
-    identity = f" {slot.identity.hex()}" if first_line != FIRST else ""
-    regions = [f"{base:x}+{length:x}" for base, length in slot.regions()]
-    memory = f"{','.join(regions)} {disk}" if first_line == EXTENDED else f"{slot.base:x} {slot.length:x}"
-    return f"slot {memory} {slot.start:x} {slot.count:x} {mode} {slot.columns:x} {slot.rows:x}{identity}"

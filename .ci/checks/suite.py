@@ -80,8 +80,7 @@ def packaged():
         cache.mkdir(parents=True)
         for name in ("data", "matrix", "mutants", "run-on", "suite", "rules", "STANDARD.md"):
             (suite / name).symlink_to(TOP / "crates/conformance" / name)
-        for name in ("docs", "fuzz"):
-            pathlib.Path(folder, name).symlink_to(TOP / name)
+        pathlib.Path(folder, "docs").symlink_to(TOP / "docs")
         (cache / "data").symlink_to(TOP / "crates/conformance/data")
         (suite / "packaged").touch()
         ran = called(suite / "run-on", "--quiet", "--adapter", "--only", "registers", TOP / MODEL, env={**os.environ, "XDG_CACHE_HOME": f"{folder}/cache"})

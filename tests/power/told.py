@@ -1,12 +1,9 @@
 """What the guests of a trace are told of their disks, by the small model of crates/conformance/mutants alone."""
-import os
-import sys
 from collections import namedtuple
 
 from guests import SECTOR
-
-sys.path.insert(0, os.path.join(os.path.dirname(os.path.abspath(__file__)), "..", "..", "crates", "conformance", "mutants"))
 import model
+import trace_text
 
 
 class Event(namedtuple("Event", "number guest before after calls")):
@@ -48,8 +45,8 @@ class Told:
         image = NotedImage(scene.image)
         board = model.board_of([guest.slot.fields() for guest in scene.guests], scene.cache, image, ())
         self.records, self.events = [], []
-        for number, (guest, what) in enumerate(scene.lines):
-            word, *fields = (what if guest is None else scene.event(guest, what, guest)).split(" ")
+        *_, events = trace_text.parts_of(scene.trace())
+        for number, ((guest, _), (word, *fields)) in enumerate(zip(scene.lines, events)):
             before = bytes(image.bytes)
             self.records.append(model.record_of(board, word, fields))
             if image.noted:

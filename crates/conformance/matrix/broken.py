@@ -1,5 +1,5 @@
 """Texts of traces that are broken by lot, in one line or in two."""
-import reader
+import trace_text
 
 from .lots import Dice
 from .story import Slot, Story
@@ -43,10 +43,10 @@ COUNT = 60
 
 
 class Text(Story):
-    """A text, and what the second reader says of it."""
+    """A text, and what trace_text.py says of it."""
 
     def __init__(self, name, about, text, shows):
-        fault = reader.fault_of(text.encode("latin-1"))
+        fault = trace_text.fault_of(text.encode("latin-1"))
         super().__init__(name, about, [Slot()], fault=f"trace {fault[0]} {fault[1]}" if fault else None, shows=shows)
         self.text, self.version = text, 1 if text.startswith("vreplay 1\n") else 2
 

@@ -7,7 +7,7 @@ import functools
 import mmap
 import struct
 
-import reader
+import trace_text
 from mutants import model
 
 DESCRIPTOR = struct.Struct("<QIHH")
@@ -210,9 +210,9 @@ def hosted_record_of(slots, word, fields):
 
 def use():
     """Puts these in the places of the model's and the reader's own."""
-    model.Memory, model.descriptor, reader.fault_in = Memory, descriptor, fault_in
+    model.Memory, model.descriptor, trace_text.fault_in = Memory, descriptor, fault_in
     model.Queue.take, model.Queue.give, model.Slot.serve = take, give, serve
     model.Window.negotiated, model.Window.offered_bits, model.hosted_record_of = negotiated, offered_bits, hosted_record_of
 
 
-FAULT_IN, TAKE, GIVE, SERVE = reader.fault_in, model.Queue.take, model.Queue.give, model.Slot.serve
+FAULT_IN, TAKE, GIVE, SERVE = trace_text.fault_in, model.Queue.take, model.Queue.give, model.Slot.serve

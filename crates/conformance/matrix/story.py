@@ -6,7 +6,7 @@ said and isn't the model's answer is told by `files`, so that a model and a gene
 import dataclasses
 import typing
 
-import reader
+import trace_text
 from mutants import model
 
 SECTOR = 512
@@ -147,7 +147,7 @@ class Story:
 
     def replayed(self, text, before):
         """The model's records, its status, and the image that it leaves."""
-        return model.replay(text.encode(), before, set(self.fails or ()), (), reader.fault_of)
+        return model.replay(text.encode(), before, set(self.fails or ()), (), trace_text.fault_of)
 
     def files(self):
         """The scenario's files by their endings; raises Disagrees where the model's answer isn't what is said."""

@@ -6,7 +6,7 @@ import ast
 import copy
 
 # What reads and prints the texts of a trace and of records, which is no device's own, and what only builds its state.
-OTHERS = {"main", "replay", "slot_of", "bytes_of", "spelled"}
+OTHERS = {"main", "replay", "slot_of"}
 OTHER_BOUND = {ast.Lt: ast.LtE, ast.LtE: ast.Lt, ast.Gt: ast.GtE, ast.GtE: ast.Gt}
 ONE_FURTHER = {ast.Lt: -1, ast.LtE: 1, ast.Gt: 1, ast.GtE: -1}
 

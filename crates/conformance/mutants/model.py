@@ -3,15 +3,18 @@
 
     model.py TRACE IMAGE [--save FILE] [--fails N,..] [--lacks FEATURE]
 
-Each rule stands on a line of its own, so that one change breaks one rule. It is slow and plain on purpose.
+Each rule stands on a line of its own, so that one change breaks one rule. It is slow and plain on purpose. trace_text.py, beside it,
+takes the trace apart.
 """
-import os
 import sys
+
+sys.dont_write_bytecode = True
+
+import trace_text
+from trace_text import EXTENDED, bytes_of, spelled
 
 NEXT, WRITE, INDIRECT, AVAIL, USED = 1, 2, 4, 0x80, 0x8000
 ACKNOWLEDGE, DRIVER, DRIVER_OK, FEATURES_OK, NEEDS_RESET, FAILED = 1, 2, 4, 8, 64, 128
-# The first line of an extended trace.
-EXTENDED = "kalyubos 1"
 
 FEATURE = {"indirect_desc": 28, "event_idx": 29, "version_1": 32, "ring_packed": 34, "notification_data": 38, "seg_max": 2, "ro": 5,
            "blk_size": 6, "flush": 9, "write_zeroes": 14, "size": 0, "emerg_write": 2, "mtu": 3, "mac": 5, "status": 16}
@@ -1301,21 +1304,12 @@ def board_of(slots, capacity, image, lacks, most=64, largest=2**28):
     return [slot_on(disk, fields, cache, lacks) for disk, *fields in slots]
 
 
-def bytes_of(field):
-    return b"" if field == "-" else bytes.fromhex(field)
-
-
-def spelled(content):
-    return content.hex() or "-"
-
-
-def slot_of(first_line, line):
+def slot_of(first_line, words):
     """What a slot line says: who has the disk, base and length of the first region, what stands behind both, and the other regions."""
-    memory, disk = ([one.split("+") for one in line[1].split(",")], line[2]) if first_line == EXTENDED else ([line[1:3]], "image")
-    rest = line[3:]
-    regions = [tuple(int(number, 16) for number in one) for one in memory]
-    numbers = [field if field in ("rw", "ro") else int(field, 16) for field in rest[:5]]
-    return [disk, *regions[0], *numbers, *[bytes.fromhex(field) for field in rest[5:]], *regions[1:]]
+    line = trace_text.Line(words, first_line)
+    region, *others = line.regions()
+    rest = [line[name] for name in ("start", "count", "mode", "columns", "rows", "identity") if name in line]
+    return [line.disk(), *region, *rest, *others]
 
 
 def record_of(slots, word, fields):
@@ -1539,16 +1533,15 @@ def replay(text, content, fails=(), lacks=(), fault_of=None):
     fault = fault_of(text) if fault_of else None
     if fault:
         return f"fault trace {fault[0]} {fault[1]}\n", 1, image
-    lines = [line.split(" ") for line in text.decode("ascii").split("\n")[:-1]]
-    first_line = " ".join(lines[0])
-    slots = [slot_of(first_line, line) for line in lines if line[0] == "slot"]
+    first_line, capacity, slots, events = trace_text.parts_of(text.decode("ascii"))
+    slots = [slot_of(first_line, words) for words in slots]
     is_hosted = any(has_host(disk) for disk, *_ in slots)
     most, largest = 16 if first_line == "vreplay 1" else 64, 2**32 if first_line == EXTENDED else 2**28
     try:
-        board = board_of(slots, int(lines[1][1], 16), image, lacks, most, largest)
+        board = board_of(slots, capacity, image, lacks, most, largest)
     except BadBoard as refused:
         return f"fault board {refused}\n", 1, image
-    events, told = lines[2 + len(slots):], hosted_record_of if is_hosted else record_of
+    told = hosted_record_of if is_hosted else record_of
     return "".join(told(board, word, fields) + "\n" for word, *fields in events), 0, image
 
 
@@ -1561,12 +1554,9 @@ def main(words):
             options[word] = next(rest)
         else:
             files.append(word)
-    sys.path.insert(0, os.path.join(os.path.dirname(os.path.abspath(__file__)), "..", "..", "..", "fuzz"))
-    sys.dont_write_bytecode = True
-    from reader import fault_of
     with open(files[0], "rb") as trace, open(files[1], "rb") as before:
         fails = {int(one) for one in options["--fails"].split(",") if one}
-        output, status, image = replay(trace.read(), before.read(), fails, options["--lacks"].split(","), fault_of)
+        output, status, image = replay(trace.read(), before.read(), fails, options["--lacks"].split(","), trace_text.fault_of)
     sys.stdout.write(output)
     if options["--save"] and not status:
         with open(options["--save"], "wb") as after:

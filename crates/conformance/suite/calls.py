@@ -4,9 +4,11 @@ docs/model.md says that what is cached isn't seen. Where a call fails it is: a d
 another call with that number. So a scenario whose image fails is replayed on models with other caches; where one of
 these answers otherwise, the calls decide.
 """
+import trace_text
+
 from . import models
 
-MODEL, READER = models.model(), models.reader()
+MODEL = models.model()
 
 
 class KeepsNothing(MODEL["Cache"]):
@@ -51,5 +53,5 @@ def decide(scenario):
 def passes(scenario, cache):
     MODEL["Cache"] = cache
     text, fails = scenario.read(".trace"), set(scenario.fails)
-    output, status, image = MODEL["replay"](text, scenario.image, fails, (), READER["fault_of"])
+    output, status, image = MODEL["replay"](text, scenario.image, fails, (), trace_text.fault_of)
     return f"{output}status {status}\n" == scenario.records and bytes(image.bytes) == scenario.image_after

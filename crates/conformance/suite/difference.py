@@ -19,9 +19,9 @@ class Difference:
     def lines(self, scenario):
         """It for a reader."""
         if self.event:
-            yield f"line {self.event.line}: {shortened(self.event.text)}: {self.event.in_words()}"
+            yield f"line {self.event.number}: {shortened(self.event.text)}: {self.event.in_words()}"
         if self.refused:
-            yield f"line {self.refused.line}: {shortened(self.refused.text)}: no line of a trace"
+            yield f"line {self.refused.number}: {shortened(self.refused.text)}: no line of a trace"
         yield f"expected {shortened(self.expected)}"
         yield f"found    {shortened(self.found)}"
         wanted, has = bytes_told(self.expected), bytes_told(self.found)
@@ -43,7 +43,7 @@ class Difference:
         """Which register is meant, or of a look at memory which byte."""
         if self.event.word == "mr":
             return self.first_byte()
-        return self.event.fields[2:4] if self.event.word in ("r", "w") else ()
+        return self.event.behind[:2] if self.event.word in ("r", "w") else ()
 
     def first_byte(self):
         """The bytes themselves, where they are few, or else how many there are, and which differs first."""
@@ -107,7 +107,7 @@ def where(scenario, number):
     fault = FAULT.search(scenario.records)
     lines = scenario.text.split("\n")
     at = int(fault[1]) if fault else 0
-    return None, trace.Event(at, lines[at - 1], []) if 0 < at <= len(lines) else None
+    return None, trace.Event(lines[at - 1].split(" "), number=at) if 0 < at <= len(lines) else None
 
 
 FAULT = re.compile(r"^fault trace (\d+) ", re.MULTILINE)

@@ -10,8 +10,7 @@ sys.path.append(os.path.join(os.path.dirname(os.path.dirname(CRATE)), "fuzz"))
 
 import guests
 from guests import IDENTITY_TEXT, SECTOR, Guest, Offered, Slot
-from reader import FIRST
-from scene import slot_line
+from trace_text import FIRST
 
 SECTORS = 8
 SLOT = Slot(0x80000000, 0x10000, 0, SECTORS, False, 80, 25, IDENTITY_TEXT)
@@ -168,7 +167,7 @@ def probe():
 
 def front(cache):
     """The lines of a trace before its events."""
-    return [FIRST, f"cache {cache:x}", slot_line(SLOT, FIRST)]
+    return [FIRST, f"cache {cache:x}", SLOT.line(FIRST, "image")]
 
 
 def offered_by(replies):

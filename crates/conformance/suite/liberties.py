@@ -32,9 +32,9 @@ class Layout:
 
     def take(self, event):
         """What an event changes of it."""
-        if event.word != "w" or event.fields[4] != "4":
+        if event.word != "w" or event.fields["width"] != "4":
             return
-        window, offset, value = event.fields[2], int(event.fields[3], 16), int(event.fields[5], 16)
+        window, offset, value = event["window"], event["offset"], event["value"]
         queue = self.queues.setdefault((window, self.selected.get(window, 0)), Queue())
         if offset == 0x070 and value == 0:
             self.selected[window], self.selector[window], self.packed[window] = 0, 0, False
@@ -92,7 +92,7 @@ def answers_agree(event, one, other, layout, named):
         return is_left_open(event, named)
     if event.word != "mr" or one[:2] != "b:" or other[:2] != "b:" or len(one) != len(other):
         return False
-    at, left, right = int(event.fields[2], 16), bytearray.fromhex(one[2:]), bytearray.fromhex(other[2:])
+    at, left, right = event["address"], bytearray.fromhex(one[2:]), bytearray.fromhex(other[2:])
     for first, end, bits in layout.fields(named):
         for byte in range(max(first, at), min(end, at + len(left))):
             left[byte - at] &= ~bits & 0xff
@@ -102,9 +102,9 @@ def answers_agree(event, one, other, layout, named):
 
 def is_left_open(event, named):
     """Whether a named liberty leaves a register's value open."""
-    offset = int(event.fields[3], 16)
+    offset = event["offset"]
     if offset >= trace.CONFIGURATION:
-        return "configuration" in named and not (event.fields[2] == "b" and offset < 0x108)
+        return "configuration" in named and not (event["window"] == "b" and offset < 0x108)
     register = trace.REGISTERS.get(offset)
     return {"VendorID": "vendor", "DeviceFeatures": "offer", "QueueNumMax": "queue_num_max",
             "ConfigGeneration": "configuration", "InterruptStatus": "spurious_interrupt"}.get(register) in named

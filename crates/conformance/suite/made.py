@@ -25,7 +25,8 @@ CACHE = os.path.join(os.environ.get("XDG_CACHE_HOME") or os.path.join(os.path.ex
 MADE, OUT = (DATA, os.path.join(CRATE, "out")) if IS_OWN else (os.path.join(CACHE, "data"), os.path.join(CACHE, "out"))
 PARTS = ("scenarios", "matrix", "large")
 STATE, PAGES = os.path.join(MADE, ".made"), [os.path.join(MADE, name, "README.md") for name in PARTS] + [os.path.join(MADE, "MATRIX.md")]
-MODEL = (os.path.join(CRATE, "mutants", "model.py"), os.path.join(CRATE, "..", "..", "fuzz", "reader.py"))
+# The model, and the reader of traces beside it.
+MODEL = (os.path.join(CRATE, "mutants", "model.py"), os.path.join(CRATE, "mutants", "trace_text.py"))
 # The modules that one stands on: `from .NAME import ..`, or `from . import NAME`.
 IMPORTED = re.compile(r"^from \.(?:(\w+) import | import (\w+)$)", re.MULTILINE)
 

@@ -1,24 +1,16 @@
-"""The model and the reader of traces beside it, apart from others, so that a part of the model may be replaced."""
+"""The model, apart from others, so that a part of it may be replaced."""
 import functools
 
 from . import made
 
 
 @functools.lru_cache(maxsize=None)
-def code(path):
-    return compile(made.text_of(path), path, "exec")
-
-
-def names(path):
-    """The names of a module of its own."""
-    found = {"__name__": "apart"}
-    exec(code(path), found)
-    return found
+def code():
+    return compile(made.text_of(made.MODEL[0]), made.MODEL[0], "exec")
 
 
 def model():
-    return names(made.MODEL[0])
-
-
-def reader():
-    return names(made.MODEL[1])
+    """The names of a model of its own."""
+    found = {"__name__": "apart"}
+    exec(code(), found)
+    return found

@@ -1,4 +1,5 @@
 """A trace made as short as what it shows allows: event by event, then field by field."""
+import trace_text
 
 
 class Shortened:
@@ -43,17 +44,16 @@ class Shortened:
 
 def simpler_lines(line):
     """A line with one field simpler, the simplest first."""
-    fields = line.split(" ")
-    word, last = fields[0], fields[-1]
-    if word == "w" and last.strip("0"):
-        yield " ".join(fields[:-1] + ["0" * len(last)])
-    if word in ("mw", "in") and last != "-":
-        for length in (2, len(last) // 4 * 2, len(last) // 2 // 2 * 2):
-            if 0 < length < len(last):
-                yield " ".join(fields[:-1] + [last[:length]])
-        zeros = "0" * len(last)
-        if last != zeros:
-            yield " ".join(fields[:-1] + [zeros])
-        half = len(last) // 4 * 2
-        yield from (" ".join(fields[:-1] + [content]) for content in
-                    (last[:half] + zeros[half:], zeros[:half] + last[half:]) if content != last)
+    event = trace_text.Line(line.split(" "))
+    if event.word == "w" and event["value"]:
+        yield " ".join(event.with_field("value", 0))
+    if event.word in ("mw", "in"):
+        for content in simpler_contents(event["content"]):
+            yield " ".join(event.with_field("content", content))
+
+
+def simpler_contents(content):
+    """Shorter bytes, and as many with more zeros."""
+    half, zeros = len(content) // 2, bytes(len(content))
+    yield from (content[:length] for length in (1, half) if 0 < length < len(content))
+    yield from (other for other in (zeros, content[:half] + zeros[half:], zeros[:half] + content[half:]) if other != content)

@@ -1,13 +1,11 @@
 """The lines of a trace: what each is in words, and which features a driver in it takes or asks for.
 
-fuzz/reader.py has the text's grammar. Lines that aren't in it are passed over: some scenarios are about just those.
+Lines that are none of a trace are passed over: some scenarios are about just those.
 """
-import dataclasses
-from typing import List
+import re
 
-from . import models
-
-READER = models.reader()
+import trace_text
+from trace_text import slots_of
 
 # Offset, name, and whether a driver may read it.
 REGISTERS = {
@@ -22,6 +20,9 @@ REGISTERS = {
 }
 CONFIGURATION = 0x100
 WINDOWS = {"b": "block", "c": "console"}
+
+# The identity of each slot of a trace of version 1, as a serial number.
+SERIAL = "vreplay-block"
 
 # The bits of section 6, and those of each device (5.2.3, 5.3.3).
 EVERY_FEATURE = {
@@ -49,7 +50,7 @@ def bit_name(window, bit):
 
 
 # The first line of an extended trace.
-EXTENDED = READER["EXTENDED"] + "\n"
+EXTENDED = trace_text.EXTENDED + "\n"
 
 # Every name that a scenario's features may have.
 BESIDE_BITS = {"guests", "extended", "regions", "hosted", "depth", "held", "devices", "disks", "consoles", "spare", "ro", "input", "resize", "size", "restore",
@@ -58,26 +59,13 @@ NAMED = BESIDE_BITS | {feature for fields in FIELDS.values() for _, _, feature i
     | {bit_name(window, bit) for window in WINDOWS for bit in range(64)}
 
 
-@dataclasses.dataclass(frozen=True)
-class Event:
-    """An event line, with its fields as text."""
-
-    line: int
-    text: str
-    fields: List[str]
-
-    @property
-    def word(self):
-        return self.fields[0]
-
-    @property
-    def slot(self):
-        return int(self.fields[1], 16)
+class Event(trace_text.Line):
+    """An event line."""
 
     def in_words(self):
         """What the event is, for a reader; a scenario may be about a line that is none."""
         try:
-            return f"guest {self.slot} " + getattr(self, "say_" + self.word)(*self.fields[2:])
+            return f"guest {self['slot']} " + getattr(self, "say_" + self.word)(*self.behind)
         except (KeyError, ValueError):
             return "no event"
 
@@ -170,35 +158,30 @@ def place(window, offset):
     return f"{REGISTERS.get(offset, f'offset {offset:03x}')} of its {WINDOWS[window]} window"
 
 
-# The words of events.
-EVENTS = READER["LINES"].keys() - {"cache", "slot"}
-
-
 def events_of(text):
     """The events of a trace's text, up to the first line that is none."""
-    events = []
-    for number, line in enumerate(text.split("\n"), 1):
-        word, *fields = line.split(" ")
-        if word in EVENTS:
-            if len(fields) != len(READER["kinds_of"](word, fields, READER["EXTENDED"])):
-                break
-            events.append(Event(number, line, [word, *fields]))
-    return events
+    return trace_text.events_of(text, Event)
 
 
-def plugs_disk(fields):
-    """Whether a line's fields are those of a plug of a disk, whoever serves it."""
-    return READER["is_disk"](fields[0], fields[1:])
+def tests_text(text):
+    """Whether a trace is about its text, which an adapter doesn't judge: a line has a fault, or it is of version 2."""
+    return text.startswith(trace_text.FIRST_LINES[1]) or trace_text.fault_of(text.encode("latin-1")) is not None
 
 
-def plugs_console(fields):
-    """Whether a line's fields are those of a plug of a console."""
-    return fields[0] == "plug" and "".join(fields[3:4]).startswith("console:")
+def serial_of(slot):
+    """The identity of a slot's disk as a serial number, or None where it is no word."""
+    serial = slot["identity"].rstrip(b"\0").decode("latin-1") if "identity" in slot else SERIAL
+    return serial if re.fullmatch(r"[\w-]+", serial, re.ASCII) else None
 
 
-def slots_of(text):
-    """The fields of each slot line."""
-    return [line.split(" ")[1:] for line in text.split("\n") if line.startswith("slot ")]
+def plugs_disk(event):
+    """Whether an event plugs in a disk, whoever serves it."""
+    return trace_text.is_disk(event.word, event.words[1:])
+
+
+def plugs_console(event):
+    """Whether an event plugs in a console."""
+    return event.word == "plug" and event["kind"].startswith("console:")
 
 
 class Window:
@@ -222,16 +205,16 @@ def features_of(text, replies):
     slots = slots_of(text)
     if len(slots) > 1:
         found.add("guests")
-    hosted = {fields[1] for fields in slots if "extended" in found and len(fields) > 1 and fields[1].startswith("host:")}
+    hosted = {slot.disk() for slot in slots if slot.disk().startswith("host:")}
     if hosted:
         found.add("hosted")
     if hosted - {"host:1"}:
         found.add("depth")
-    if any("".join(fields[1:2]).startswith("image+") for fields in slots):
+    if any(slot.disk().startswith("image+") for slot in slots):
         found.add("spare")
-    if any("," in "".join(fields[:1]) for fields in slots):
+    if any("," in slot.fields.get("regions", "") for slot in slots):
         found.add("regions")
-    if any(fields[4:5] == ["ro"] for fields in slots):
+    if any(slot.fields.get("mode") == "ro" for slot in slots):
         found.add("ro")
     windows = {}
     for event, reply in zip(events_of(text), replies):
@@ -254,24 +237,24 @@ def features_in(event, reply, windows):
         return {"hosted"}
     if event.word in ("drop", "hold", "release"):
         return {"hosted", "held"}
-    if event.word in ("dio", "ddrop", "dhold", "drelease") or plugs_disk(event.fields):
+    if event.word in ("dio", "ddrop", "dhold", "drelease") or plugs_disk(event):
         return {"devices", "disks"}
-    if event.word == "dsz" or plugs_console(event.fields):
+    if event.word == "dsz" or plugs_console(event):
         return {"devices", "consoles"}
     if event.word in ("plug", "dr", "dw", "supply", "frame", "take", "dsent", "link"):
         return {"devices"}
-    if event.word not in ("r", "w") or event.fields[2] not in WINDOWS:
+    if event.word not in ("r", "w") or event["window"] not in WINDOWS:
         return set()
-    name, offset, width = event.fields[2], int(event.fields[3], 16), event.fields[4]
+    name, offset = event["window"], event["offset"]
     if offset >= CONFIGURATION:
-        byte = offset - CONFIGURATION
-        return {feature for first, end, feature in FIELDS[name] if byte < end and byte + int(width, 16) > first}
-    if width != "4":
+        byte, end = offset - CONFIGURATION, offset - CONFIGURATION + event["width"]
+        return {feature for first, behind, feature in FIELDS[name] if byte < behind and end > first}
+    if event.fields["width"] != "4":
         return set()
-    window = windows.setdefault((event.slot, name), Window())
+    window = windows.setdefault((event["slot"], name), Window())
     if event.word == "r":
         return shown(name, offset, reply, window)
-    return written(name, offset, int(event.fields[5], 16), window)
+    return written(name, offset, event["value"], window)
 
 
 def shown(name, offset, reply, window):

@@ -14,7 +14,7 @@ class Watch:
 
     def __init__(self, scenario, last):
         self.last, self.line, self.slots, self.written = last, None, [], []
-        self.lines = iter([event.line for event in scenario.events])
+        self.events = iter(scenario.events)
         model = models.model()
         self.flag, self.record_of, model["record_of"] = model["WRITE"], model["record_of"], self.counted
         model["SLOTS"] = {disk: self.watched(kind) for disk, kind in model["SLOTS"].items()}
@@ -25,12 +25,12 @@ class Watch:
 
     def counted(self, slots, word, fields):
         """The record of an event, whose line is noted."""
-        self.line, self.slots = next(self.lines), slots
+        event = next(self.events)
+        self.line, self.slots = event.number, slots
         if self.line == self.last:
             raise Reached
-        if word == "mw" and int(fields[0], 16) < len(slots):
-            slot, address = slots[int(fields[0], 16)], int(fields[1], 16)
-            self.note(slot, address, len(fields[2]) // 2, f"what line {self.line} put there")
+        if word == "mw" and event["slot"] < len(slots):
+            self.note(slots[event["slot"]], event["address"], len(event["content"]), f"what line {self.line} put there")
         return self.record_of(slots, word, fields)
 
     def note(self, slot, first, count, words):
@@ -71,8 +71,8 @@ def request_in_words(header):
 def byte_in_words(scenario, event, wanted, has):
     """The first byte that differs in a look at memory: where it is, and whose."""
     at = next(at for at, (one, other) in enumerate(zip(wanted, has)) if one != other)
-    address, watch = int(event.fields[2], 16) + at, Watch(scenario, event.line)
-    whose = watch.whose(watch.slots[event.slot], address)
+    address, watch = event["address"] + at, Watch(scenario, event.number)
+    whose = watch.whose(watch.slots[event["slot"]], address)
     is_status = whose and whose.startswith("the status")
     one, other = (STATUSES.get(byte, f"{byte:02x}") if is_status else f"{byte:02x}" for byte in (wanted[at], has[at]))
     return f"byte {at}, at {address:x}{', is ' + whose if whose else ''}: {one} expected, {other} found"
