@@ -1,5 +1,5 @@
 /*
- * Times the calls of the static library: the processor time of one, the best of many rounds. bench/calls builds it.
+ * Times the calls of the static library: the processor time of one, the best of many rounds. bench/library builds it.
  */
 #include <stdio.h>
 #include <stdlib.h>

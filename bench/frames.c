@@ -1,5 +1,5 @@
 /*
- * Times frames of a network card from C: the processor time of one, the best of many rounds. bench/frames builds it.
+ * Times frames of a network card from C: the processor time of one, the best of many rounds. bench/library builds it.
  */
 #include <stdio.h>
 #include <stdlib.h>

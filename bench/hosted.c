@@ -3,7 +3,7 @@
  * serves it the notify that asks, kalyubos_operation and kalyubos_completed, without a byte moved; also of 8 and of 32 requests
  * that one notify asks for, which are in flight together and are completed from the last to the first; and the first two over
  * memory that is lent. In turn, the best of many rounds, in processor time; and how often the heap was called meanwhile.
- * bench/hosted builds it.
+ * bench/library builds it.
  *
  *     hosted           prints the times of one request, and a ratio
  *     hosted WAY N     makes N requests in the way image, host, 8, 32, lent-image or lent-host, for callgrind

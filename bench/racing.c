@@ -2,7 +2,7 @@
  * Times a request of 4 KiB of a guest that runs on during its calls, beside the same request of a guest on a board, whose disk the
  * host serves too: the driver's stores that offer it, the notify, the operation and its completion, without a byte moved. An IN
  * and an OUT, over split and packed rings, in memory that the host lends. In turn, the best of many rounds, in processor time.
- * bench/racing builds it.
+ * bench/library builds it.
  *
  *     racing           prints the times of each request, and the ratios
  *     racing WAY N     makes N requests in the way board-in-split, guest-in-split, board-out-split, .. guest-out-packed, for callgrind

@@ -3,7 +3,7 @@
  * what it has read, and by a guest's driver whose disk is served through examples/embed/support/file_ring.c, and which runs behind each
  * eight completions. Each is one thread, in turn, ROUNDS rounds; printed are the best rate of each, the least processor time of a
  * read, and the guest's ratios to the first loop and to the second.
- * bench/random builds it.
+ * bench/library builds it.
  *
  *     random FILE DEPTH READS ROUNDS
  */

@@ -1,5 +1,5 @@
 /*
- * What it costs to stop a guest's CPUs for a call, as examples/embed/support/cpus.c does over KVM. bench/stopping builds it.
+ * What it costs to stop a guest's CPUs for a call, as examples/embed/support/cpus.c does over KVM. bench/library builds it.
  *
  * A guest has two, then four CPUs. One has left KVM_RUN with an exit, and its thread stops the others, which run a loop
  * in the guest, and lets them go. A round's time is that of cpus_stop; between rounds they run again for a while.

@@ -1,6 +1,6 @@
 /*
  * How long fifteen guests wait for a 4 KiB IN beside one that keeps the board as busy as it can, under one lock: without a
- * budget, with two, and by each device of a slot. bench/waits builds it.
+ * budget, with two, and by each device of a slot. bench/library builds it.
  *
  * In each round every guest asks at once, the hostile one is called first, and the others one after another. What each
  * of them waits is the time from the round's start to the end of its own call. A host that serves the disks moves no
