@@ -231,14 +231,15 @@ class Driver(Guest):
             content = content[:at] + bytes([content[at] ^ 1 << dice.below(8)]) + content[at + 1:]
         self.do("st", content.hex())
 
-    def snapshot(self):
-        """The slot's, with its further devices."""
+    def snapshot(self, change=lambda own, windows: None):
+        """The slot's, with its further devices; a change is made to its own fields and to the devices' windows."""
         slot = self.life.board[self.slot]
-        own = saved(self).spelled()
-        front, pending = own[:len(own) - 4 - len(slot.pending)], own[len(own) - 4 - len(slot.pending):]
+        own, windows = saved(self), [saved_window(one.window) for one in slot.devices]
+        change(own, windows)
+        front, behind = own.spelled(), 4 + len(own.pending)
         devices = b"".join(number(one.window.device_id, 4) + one.address + number(one.mtu, 2) + number(one.sectors, 8) + one.identity
-                           + saved_window(one.window).spelled() for one in slot.devices)
-        return front[:8] + number(2, 4) + front[12:] + number(len(slot.devices), 4) + devices + pending
+                           + window.spelled() for one, window in zip(slot.devices, windows))
+        return front[:8] + number(2, 4) + front[12:-behind] + number(len(slot.devices), 4) + devices + front[-behind:]
 
     # --- what is seen
 
