@@ -1,5 +1,7 @@
 """More than usual of what has no small limit: sectors of a request, bytes put out, looked at and typed, kept sectors,
 and buffers of a sector."""
+import functools
+
 from .by_hand import written_out
 from .drivers import INDIRECT_DESC, KINDS, SERVED, WRITE, Buffer, Split, number
 from .places import shown
@@ -358,6 +360,7 @@ def cut_writes(kind):
 
 # --- input
 
+@functools.lru_cache(maxsize=None)
 def text(first, count):
     return bytes((first + at) * 3 % 241 for at in range(count))
 

@@ -1,5 +1,7 @@
 """Requests in each form: cut at each place, in each number of buffers, with empty buffers at each place, in tables that lie at any
 address, and with each part at address 0."""
+import functools
+
 from .by_hand import written_out
 from .drivers import INDIRECT_DESC, KINDS, SERVED, WRITE, Buffer, number
 from .requests import FLUSH, GET_ID, IDENTITY, IN, IOERR, OK, OUT, UNSUPP, WRITE_ZEROES, header, segment
@@ -60,6 +62,7 @@ def by_hand():
         """)
 
 
+@functools.lru_cache(maxsize=None)
 def pattern(first):
     """A sector in which each byte is another than its neighbours."""
     return bytes((at * 3 + at // 256 + 29 * first) % 253 for at in range(SECTOR))

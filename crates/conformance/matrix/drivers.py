@@ -5,6 +5,7 @@ tells the device, with what the rules say comes of it.
 """
 import dataclasses
 import enum
+import struct
 
 from .story import BASE, CHANGED, USED
 
@@ -40,6 +41,14 @@ class Buffer:
     flags: int = 0
     link: int = -1
 
+    def marked(self, flags):
+        """It with further flags."""
+        return Buffer(self.address, self.length, self.flags | flags, self.link)
+
+
+# A descriptor of a split ring: address, length, flags and next; of a packed one the id stands before the flags.
+DESCRIPTOR = struct.Struct("<QIHH")
+
 
 def number(value, size):
     return value.to_bytes(size, "little")
@@ -47,7 +56,7 @@ def number(value, size):
 
 def joined(buffers):
     """The buffers with NEXT, but for the last."""
-    return [dataclasses.replace(one, flags=one.flags | NEXT) for one in buffers[:-1]] + buffers[-1:]
+    return [one.marked(NEXT) for one in buffers[:-1]] + buffers[-1:]
 
 
 class Queue:
@@ -160,7 +169,7 @@ class Split(Queue):
 
     def entry(self, buffer, position):
         link = position + 1 if buffer.link < 0 else buffer.link
-        return number(buffer.address, 8) + number(buffer.length, 4) + number(buffer.flags, 2) + number(link % 65536, 2)
+        return DESCRIPTOR.pack(buffer.address, buffer.length, buffer.flags, link % 65536)
 
     def put_chain(self, buffers, head=0):
         entries = [self.entry(buffer, head + position) for position, buffer in enumerate(buffers)]
@@ -211,13 +220,13 @@ class Packed(Queue):
 
     def entry(self, buffer, position):
         link = 0 if buffer.link < 0 else buffer.link
-        return number(buffer.address, 8) + number(buffer.length, 4) + number(link, 2) + number(buffer.flags, 2)
+        return DESCRIPTOR.pack(buffer.address, buffer.length, link, buffer.flags)
 
     def put_chain(self, buffers, place=None):
         """Descriptors from a place on, each offered; those behind the ring's end stand at its front."""
         place, front, behind = self.offered if place is None else place, b"", b""
         for count, buffer in enumerate(buffers):
-            marked = dataclasses.replace(buffer, flags=buffer.flags | self.mark(place + count))
+            marked = buffer.marked(self.mark(place + count))
             if place % self.size + count < self.size:
                 front += self.entry(marked, 0)
             else:
@@ -228,7 +237,7 @@ class Packed(Queue):
 
     def offer(self, buffers, link=0):
         """Descriptors one behind another, joined by NEXT; `link` is the id of those that have none."""
-        named = [buffer if buffer.link >= 0 else dataclasses.replace(buffer, link=link) for buffer in joined(buffers)]
+        named = [buffer if buffer.link >= 0 else Buffer(buffer.address, buffer.length, buffer.flags, link) for buffer in joined(buffers)]
         self.put_chain(named)
         self.offered = (self.offered + len(buffers)) % (2 * self.size)
 

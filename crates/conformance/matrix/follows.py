@@ -7,7 +7,7 @@ import dataclasses
 
 from mutants import model
 
-from .drivers import (ACKNOWLEDGE, AREAS, AVAIL, DRIVER, DRIVER_FEATURES, DRIVER_OK, DRIVER_SEL, FEATURES_OK, INDIRECT,
+from .drivers import (ACKNOWLEDGE, AREAS, AVAIL, DESCRIPTOR, DRIVER, DRIVER_FEATURES, DRIVER_OK, DRIVER_SEL, FEATURES_OK, INDIRECT,
                       INTERRUPT_ACK, NEXT, NOTIFICATION_DATA, NOTIFY, QUEUE_NUM, QUEUE_READY, QUEUE_SEL, RING_PACKED, STATUS,
                       USED_FLAG, VERSION_1, Buffer, joined, number)
 from .story import Disagrees, Slot, Story
@@ -134,7 +134,7 @@ class Ring:
         """A descriptor: `link` is next in a split ring, the id in a packed one."""
         link = link if buffer.link < 0 else buffer.link
         pair = (link, buffer.flags | mark) if self.is_packed else (buffer.flags, link)
-        return number(buffer.address, 8) + number(buffer.length, 4) + number(pair[0], 2) + number(pair[1], 2)
+        return DESCRIPTOR.pack(buffer.address, buffer.length, *pair)
 
     def offer(self, buffers):
         """Descriptors joined by NEXT, behind those on offer."""

@@ -49,7 +49,7 @@ class Shape:
         follows = place < len(buffers) and not (self.is_packed and in_table) and not one.flags & INDIRECT
         mark = queue.mark(0) if self.is_packed and not in_table else 0
         at = place - 1 - (self.plain if in_table else 0)
-        return queue.entry(dataclasses.replace(one, flags=one.flags | (NEXT if follows else 0) | mark), at)
+        return queue.entry(one.marked((NEXT if follows else 0) | mark), at)
 
     def named(self, count):
         """The descriptor that names the table of a chain of `count` buffers."""
@@ -103,4 +103,4 @@ def texts(count=256, flags=0):
 
 def content(count=256):
     """What lies in them: each byte tells its place."""
-    return bytes(at % 256 for at in range(count))
+    return (bytes(range(256)) * (count // 256 + 1))[:count]

@@ -1,10 +1,11 @@
-"""The model's memory, its split ring, a console's services and the reader of traces, made quicker for the making: the
+"""The model's memory, its split ring, a console's services, its records and the reader of traces, made quicker for the making: the
 same answers by fewer calls.
 
 `make mutants` runs the model itself over all that is made.
 """
 import functools
 import mmap
+import re
 import struct
 
 import trace_text
@@ -167,14 +168,38 @@ def fault_in(text, line, had_event, first):
     return fault_in_one(text, min(line, 3), had_event, first)
 
 
+# The most frequent lines of events, as docs/formats.md has them.
+FREQUENT = re.compile(r"r N [bc] D{3} [124]|w N [bc] D{3} (1 D{2}|2 D{4}|4 D{8})|mr N A L|mw N A (-|(DD)+)|in N (-|(DD)+)".replace("D", "[0-9a-f]")
+                      .replace("N", "(0|[1-9a-f][0-9a-f]?)").replace("A", "(0|[1-9a-f][0-9a-f]{0,15})").replace("L", "(0|[1-9a-f][0-9a-f]{0,7})"))
+
+
+def fault_of(text):
+    """The reader's answer: the lines of a trace are looked at once each, and where one is wrong the reader says which."""
+    lines = text.decode("latin-1").split("\n")
+    first = next((at for at, line in enumerate(lines) if at > 1 and not line.startswith("slot ")), 0)
+    events = set(lines[first:-1])
+    is_good = (first and not lines[-1] and not any(fault_in(line, at, False, lines[0]) for at, line in enumerate(lines[:first], 1))
+               and not any(line.startswith("slot ") or not FREQUENT.fullmatch(line) and fault_in(line, 3, False, lines[0]) for line in events))
+    return None if is_good else FAULT_OF(text)
+
+
 @functools.lru_cache(maxsize=1 << 12)
 def names_among(offered, features):
     return frozenset(name for name in offered if features >> model.FEATURE[name] & 1)
 
 
+def offered_by(window):
+    """The features that a window offers, as a tuple that is made once."""
+    try:
+        return window.offered_names
+    except AttributeError:
+        window.offered_names = tuple(window.offered)
+        return window.offered_names
+
+
 def negotiated(window):
     """The names of a window's features, found once for each choice."""
-    return names_among(tuple(window.offered), window.driver_features) if window.status & model.FEATURES_OK else frozenset()
+    return names_among(offered_by(window), window.driver_features) if window.status & model.FEATURES_OK else frozenset()
 
 
 @functools.lru_cache(maxsize=1 << 8)
@@ -183,7 +208,7 @@ def bits_of(offered):
 
 
 def offered_bits(window):
-    return bits_of(tuple(window.offered))
+    return bits_of(offered_by(window))
 
 
 def flights_of(slots, fields):
@@ -208,11 +233,41 @@ def hosted_record_of(slots, word, fields):
     return f"{record} {';'.join(began) or '-'}"
 
 
+def record_of(slots, word, fields):
+    number = int(fields[0], 16)
+    if number >= len(slots):
+        return f"{number:x} badslot - 0 0"
+    slot = slots[number]
+    reply, output = model.REPLIES[word](slot, *fields[1:])
+    windows = slot.windows
+    return f"{number:x} {reply} {output.hex() or '-'} {windows['b'].interrupts} {windows['c'].interrupts}"
+
+
+def memory_read(slot, address, length):
+    at, count = int(address, 16), int(length, 16)
+    for region in slot.memory.regions:
+        if region.base <= at and at + count <= region.end:
+            at -= region.base
+            return f"b:{region.bytes[at:at + count].hex() or '-'}", b""
+    return "badrange", b""
+
+
+def memory_write(slot, address, content):
+    at, new = int(address, 16), b"" if content == "-" else bytes.fromhex(content)
+    for region in slot.memory.regions:
+        if region.base <= at and at + len(new) <= region.end:
+            at -= region.base
+            region.bytes[at:at + len(new)] = new
+            return "done", b""
+    return "badrange", b""
+
+
 def use():
     """Puts these in the places of the model's and the reader's own."""
-    model.Memory, model.descriptor, trace_text.fault_in = Memory, descriptor, fault_in
+    model.Memory, model.descriptor, model.record_of, trace_text.fault_in, trace_text.fault_of = Memory, descriptor, record_of, fault_in, fault_of
+    model.REPLIES.update(mr=memory_read, mw=memory_write)
     model.Queue.take, model.Queue.give, model.Slot.serve = take, give, serve
     model.Window.negotiated, model.Window.offered_bits, model.hosted_record_of = negotiated, offered_bits, hosted_record_of
 
 
-FAULT_IN, TAKE, GIVE, SERVE = trace_text.fault_in, model.Queue.take, model.Queue.give, model.Slot.serve
+FAULT_IN, FAULT_OF, TAKE, GIVE, SERVE = trace_text.fault_in, trace_text.fault_of, model.Queue.take, model.Queue.give, model.Slot.serve

@@ -10,6 +10,8 @@ MARK = re.compile(r"(?:(?P<count>\d+) \* (?=\+ ))?(?P<mark>[-=+]) (?P<name>\S+?)
 PLACE = re.compile(r"\{([A-Z]+)(?:\.(low|high))?\}")
 REPEATED = re.compile(r"(\d+) \* (.*)$", re.DOTALL)
 RUN, RISING = re.compile(r"\{([^*{}]*)\*(\d+)\}"), re.compile(r"\{(\d+):(\d+),(\d+)\}")
+# What a line has whose bytes aren't its text's.
+PLACED = re.compile(r"[{\\]")
 ESCAPED = re.compile(r"\\(?:x([0-9a-f]{2})|(\.))")
 # The first words of a board's lines, which have no record.
 BOARD = ("vreplay", "kalyubos", "cache", "slot")
@@ -39,9 +41,9 @@ class Row:
         sides = list(map(halves, unrolled(self.lines["trace"])))
         return sides if any(event is None for event, _ in sides) else list(answered(sides))
 
-    def files(self):
-        """The scenario's files by their endings."""
-        sides = self.sides()
+    def files(self, sides=None):
+        """The scenario's files by their endings; `sides` are its own, where they are known."""
+        sides = self.sides() if sides is None else sides
         status = int(any(event is None for event, _ in sides))
         found = {".trace": together(event for event, _ in sides if event is not None),
                  ".records": together(record for _, record in sides if record is not None) + f"status {status}\n".encode()}
@@ -50,7 +52,7 @@ class Row:
 
 def filled(line, words):
     """A line of a part with words in its places; the low and the high half of a number are its 32 bits."""
-    return PLACE.sub(lambda place: put(words[place[1]], place[2]) if place[1] in words else place[0], line) if words else line
+    return PLACE.sub(lambda place: put(words[place[1]], place[2]) if place[1] in words else place[0], line) if words and "{" in line else line
 
 
 def put(word, half):
@@ -92,6 +94,8 @@ def together(lines):
 
 def spelled(line):
     """The bytes of a line, with its line feed unless it is cut."""
+    if not PLACED.search(line):
+        return (line + "\n").encode("latin-1")
     end = "" if line.endswith("\\") else "\n"
     text = RUN.sub(lambda run: run[1] * int(run[2]), line.removesuffix("\\"))
     text = RISING.sub(lambda one: rising(*map(int, one.groups())), text)

@@ -56,6 +56,10 @@ class Said(typing.NamedTuple):
     output: typing.Optional[str]
     words: typing.Optional[str]
 
+    def whole(self):
+        """The record, where all of it is said."""
+        return f"{self[0]:x} {self[1]} {self[2]} {self[3]}"
+
     def is_met_by(self, record):
         slot, reply, output, words = record.split(" ", 3)
         return slot == f"{self.slot:x}" and self.reply in (None, reply) and self.output in (None, output) and self.words in (None, words)
@@ -91,7 +95,7 @@ class Story:
         else:
             words = f"{self.words[slot, 'b']} {self.words[slot, 'c']}" if known else None
         self.lines.append(line)
-        self.said.append(Said(slot, reply, output, words))
+        self.said.append(tuple.__new__(Said, (slot, reply, output, words)))
 
     def read(self, window, offset, found=None, width=4, slot=0):
         """A register is read; `found` is the value that it must have."""
@@ -154,7 +158,7 @@ class Story:
         before, text = self.before(), self.trace()
         output, status, image = self.replayed(text, before)
         self.compare(output, status)
-        if self.leaves and self.leaves != (bytes(image.bytes), image.flushes):
+        if self.leaves and self.leaves != (image.bytes, image.flushes):
             raise Disagrees(f"{self.name}: the model leaves another image, or {image.flushes} flushes")
         found = {".trace": text, ".records": f"{output}status {status}\n"}
         if self.zeros:
@@ -163,8 +167,8 @@ class Story:
             found[".before"] = "".join(before[at:at + SECTOR].hex() + "\n" for at in range(0, len(before), SECTOR))
         if self.fails is not None:
             found[".fails"] = "".join(f"{number}\n" for number in self.fails)
-        if image.flushes or bytes(image.bytes) != before:
-            found[".after"] = "\n".join([f"flushes {image.flushes}", *changed(before, bytes(image.bytes))]) + "\n"
+        if image.flushes or image.bytes != before:
+            found[".after"] = "\n".join([f"flushes {image.flushes}", *changed(before, image.bytes)]) + "\n"
         return found
 
     def compare(self, output, status):
@@ -176,15 +180,22 @@ class Story:
         records = output.split("\n")[:-1]
         if status or len(records) != len(self.said):
             raise Disagrees(f"{self.name}: the model ends with {records[-1:]} and {status}")
-        met = set()
         for line, said, record in zip(self.lines, self.said, records):
-            if (id(said), record) not in met and not said.is_met_by(record):
+            if record != said.whole() and not said.is_met_by(record):
                 raise Disagrees(f"{self.name}: {line[:100]}: said {str(said)[:100]}, the model {record[:100]}")
-            met.add((id(said), record))
 
 
 def changed(before, after):
     """The lines of an image's changed sectors."""
-    for at in range(0, len(after), SECTOR):
-        if before[at:at + SECTOR] != after[at:at + SECTOR]:
-            yield f"sector {at // SECTOR} {after[at:at + SECTOR].hex()}"
+    for at in starts_of_changed(before, after, SECTOR << 10):
+        yield f"sector {at // SECTOR} {after[at:at + SECTOR].hex()}"
+
+
+def starts_of_changed(before, after, size, start=0, end=None):
+    """Where changed sectors begin, looked for in parts of a size that differ."""
+    for at in range(start, len(after) if end is None else min(end, len(after)), size):
+        if before[at:at + size] != after[at:at + size]:
+            if size == SECTOR:
+                yield at
+            else:
+                yield from starts_of_changed(before, after, SECTOR, at, at + size)
