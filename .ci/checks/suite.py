@@ -84,7 +84,7 @@ def packaged():
         (cache / "data").symlink_to(TOP / "crates/conformance/data")
         (suite / "packaged").touch()
         ran = called(suite / "run-on", "--quiet", "--adapter", "--only", "registers", TOP / MODEL, env={**os.environ, "XDG_CACHE_HOME": f"{folder}/cache"})
-        good = ran.returncode == 0 and not (suite / "out").exists() and (cache / "out/scenarios.json").exists()
+        good = ran.returncode == 0 and not (suite / "out").exists() and (cache / "data/.made").exists()
     return good, ["its scenarios are in the user's cache"] if good else (ran.stdout + ran.stderr).splitlines()[-5:]
 
 

@@ -8,7 +8,7 @@
  *     mkdir -p found && ./fuzz -only_ascii=1 -max_len=8000 found ../data/scenarios/[a-z]*[a-z] \
  *         -seed_inputs=../../../examples/linux-boot.trace
  *
- * The seeds are the scenarios, which ../matrix/make --needed makes, and what Linux did when it booted.
+ * The seeds are the scenarios, which ../matrix/make --files writes, and what Linux did when it booted.
  *
  * Without `address`, which looks for faults of your device's memory, it is a hundred times as fast.
  */

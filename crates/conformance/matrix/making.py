@@ -4,26 +4,22 @@ import contextlib
 import gc
 import hashlib
 import importlib
-import itertools
+import io
 import json
 import os
+import shutil
+import zipfile
 
-from suite import made
-from suite.made import MADE, STATE
+from suite import features, made, scenarios
+from suite.made import MADE, STATE, SUMS
 
 from . import page, quick, rows
 from .story import Disagrees
 
 CRATE = made.CRATE
-SUMS = os.path.join(CRATE, "matrix", "SUMS")
+# The tables that take longest are made first, so that none is waited for at the end.
+LONGEST = ("walks", "counters", "times", "amounts", "snapshots", "contexts", "apart", "cuts", "together", "rows/texts")
 quick.use()
-
-# The stories that are made in this run, for processes that are forked off.
-STORIES = []
-
-
-class Wrong(Exception):
-    """What keeps the scenarios from being made, a line each."""
 
 
 @contextlib.contextmanager
@@ -52,99 +48,131 @@ def stories_of(table):
     return list(importlib.import_module(f"matrix.{table}").stories())
 
 
-def put(folder, name, files):
-    """Writes the files of a scenario; their sizes and digests by their paths."""
-    found = {f"{folder}/{name}{end}": content for end, content in files.items()}
-    for path, content in found.items():
-        write(path, content)
-    return {path: (len(content), hashlib.sha256(content).hexdigest()) for path, content in found.items()}
+def subjects_of(table):
+    """The subjects of a table's scenarios."""
+    return [table.partition("/")[2]] if table.startswith("rows/") else list(importlib.import_module(f"matrix.{table}").FOLDERS)
 
 
 def folder_of(story):
     return "large" if story.zeros else "matrix"
 
 
-def told(number):
-    """Makes a story: its files, or what is wrong with it."""
-    story = STORIES[number]
-    try:
-        return put(folder_of(story), story.name, {end: text.encode() for end, text in story.files().items()})
-    except Disagrees as wrong:
-        return str(wrong)
+def told(story):
+    """The files of a story."""
+    return {end: text.encode() for end, text in story.files().items()}
+
+
+class Archive:
+    """The archive of a table in the making, and what the state keeps of its scenarios."""
+
+    def __init__(self, table):
+        self.table, self.content, self.digests, self.size = table, io.BytesIO(), [], 0
+        self.scenarios = []
+        self.archive = zipfile.ZipFile(self.content, "w", zipfile.ZIP_DEFLATED, compresslevel=1)
+
+    def put(self, name, about, part, files):
+        """Puts a scenario in."""
+        for end, text in files.items():
+            path = f"{part}/{name}{end}"
+            self.archive.writestr(zipfile.ZipInfo(path), text, zipfile.ZIP_DEFLATED, 1)
+            self.digests.append(f"{path} {hashlib.sha256(text).hexdigest()}\n")
+            self.size += len(text)
+        fresh = scenarios.Fresh(name, files)
+        self.scenarios.append((name, about, part, features.features_of(fresh), features.is_refused(fresh)))
+
+    def entry(self, **more):
+        """Writes the archive; what the state keeps of the table."""
+        self.archive.close()
+        path, packed = made.archive_of(self.table), self.content.getvalue()
+        os.makedirs(os.path.dirname(path), exist_ok=True)
+        with open(f"{path}.new", "wb") as file:
+            file.write(packed)
+        os.replace(f"{path}.new", path)
+        return {"key": made.key_of(self.table), "sum": sum_of("".join(sorted(self.digests)).encode()), "size": self.size,
+                "packed": len(packed), "digest": sum_of(packed), "scenarios": self.scenarios, **more}
 
 
 def by_rows(table):
     """Makes a table of rows."""
+    archive = Archive(table)
     try:
         found = rows.table(table.partition("/")[2])
-        files = {path: what for row in found.rows.values() for path, what in put("scenarios", row.name, row.files()).items()}
+        for row in found.rows.values():
+            archive.put(row.name, row.about, "scenarios", row.files())
     except rows.NoRow as wrong:
-        raise Wrong(str(wrong)) from None
-    return entry(table, files, [(row.name, row.about, "scenarios") for row in found.rows.values()], folders={found.subject: found.head})
+        return [str(wrong)]
+    return archive.entry(folders={found.subject: found.head})
 
 
-def entry(table, files, scenarios, **more):
-    """What the state keeps of a table."""
-    return {"key": made.key_of(table), "files": {path: size for path, (size, _) in files.items()},
-            "sum": sum_of((path, digest) for path, (_, digest) in files.items()), "scenarios": scenarios, **more}
+def by_stories(table):
+    """Makes a table of the matrix."""
+    archive, wrong, stories = Archive(table), [], stories_of(table)
+    for story in stories:
+        try:
+            archive.put(story.name, story.about, folder_of(story), told(story))
+        except Disagrees as why:
+            wrong.append(str(why))
+    module = importlib.import_module(f"matrix.{table}")
+    return wrong or archive.entry(folders=module.FOLDERS, page=page.part_of(module, stories))
 
 
-def sum_of(digests):
-    return hashlib.sha256("".join(f"{path} {digest}\n" for path, digest in sorted(digests)).encode()).hexdigest()
+def made_of(table):
+    """Makes a table: what the state keeps of it, or what is wrong with it, a line each."""
+    gc.disable()
+    return by_rows(table) if table.startswith("rows/") else by_stories(table)
 
 
-def sum_there(one):
-    """The sum of a table's files as they lie there, or none."""
-    try:
-        return sum_of((path, made.digest_of(os.path.join(MADE, path))) for path in one["files"])
-    except OSError:
-        return None
+def sum_of(content):
+    return hashlib.sha256(content).hexdigest()
+
+
+def is_as_made(table, known):
+    """Whether a table's archive is as it was made."""
+    with open(made.archive_of(table), "rb") as file:
+        return sum_of(file.read()) == known[table]["digest"]
 
 
 def make(names, known, jobs):
     """Makes tables; what the state then says, and what is wrong."""
-    gc.disable()
-    wrong, modules = [], [name for name in names if not name.startswith("rows/")]
-    for name in names:
-        if name not in modules:
-            remember(known, name, by_rows(name))
-    per_table = {name: stories_of(name) for name in modules}
-    STORIES[:] = itertools.chain.from_iterable(per_table.values())
-    found = all_told(jobs)
-    for name, stories in per_table.items():
-        answers = [next(found) for _ in stories]
-        wrong += [one for one in answers if isinstance(one, str)]
-        if all(isinstance(one, dict) for one in answers):
-            table = importlib.import_module(f"matrix.{name}")
-            files = {path: what for one in answers for path, what in one.items()}
-            scenarios = [(story.name, story.about, folder_of(story)) for story in stories]
-            remember(known, name, entry(name, files, scenarios, folders=table.FOLDERS, page=page.part_of(table, stories)))
-    made.stamps_in.cache_clear()
+    wrong, names = [], sorted(names, key=lambda name: LONGEST.index(name) if name in LONGEST else len(LONGEST))
+    for name, found in zip(names, all_made(names, jobs)):
+        if isinstance(found, list):
+            wrong += found
+        else:
+            known[name] = found
+            take_files_away(found)
     return wrong
 
 
-def all_told(jobs):
-    """What came of each story, in order; the long ones stand apart, so that none waits for many of them."""
-    if jobs == 1 or len(STORIES) < 8:
-        yield from map(told, range(len(STORIES)))
+def all_made(names, jobs):
+    """What came of each table, in order."""
+    if jobs == 1 or len(names) < 2:
+        yield from map(made_of, names)
         return
     with concurrent.futures.ProcessPoolExecutor(jobs) as pool:
-        yield from pool.map(told, range(len(STORIES)), chunksize=4)
+        yield from pool.map(made_of, names)
 
 
-def remember(known, name, one):
-    """Puts a table into the state, and takes away what it made before and no longer does."""
-    for path in set(known.get(name, {}).get("files", ())) - set(one["files"]):
-        with contextlib.suppress(OSError):
-            os.remove(os.path.join(MADE, path))
-    known[name] = one
+def take_files_away(entry):
+    """Takes away the files of a table's scenarios, which may be those of another text."""
+    for folder in entry.get("folders", ()):
+        for part in made.PARTS:
+            shutil.rmtree(os.path.join(MADE, part, folder), ignore_errors=True)
 
 
 def forget(known):
     """Takes away the tables that are no more, with what they made."""
     for name in set(known) - set(made.tables()):
-        remember(known, name, {"files": ()})
-        del known[name]
+        take_files_away(known.pop(name))
+        with contextlib.suppress(OSError):
+            os.remove(made.archive_of(name))
+
+
+def write_files(place):
+    """Writes all scenarios' files out below a folder."""
+    for table in made.tables():
+        with zipfile.ZipFile(made.archive_of(table)) as archive:
+            archive.extractall(place)
 
 
 def keep(known):
@@ -157,7 +185,7 @@ def listed(known, part, head):
     """The page that lists the scenarios of a part."""
     groups = []
     for name in made.tables():
-        for scenario, about, where in known[name]["scenarios"]:
+        for scenario, about, where, *_ in known[name]["scenarios"]:
             folder = scenario.partition("/")[0]
             if where == part:
                 if not groups or groups[-1][0] != folder:
@@ -176,9 +204,10 @@ def sums(known):
 
 
 def twice(known):
-    """The names that two scenarios have."""
+    """The names that two scenarios have, and the subjects that two tables have."""
     seen = set()
-    return [name for table in made.tables() for name, *_ in known[table]["scenarios"] if name in seen or seen.add(name)]
+    names = [name for table in known for name in [*known[table]["folders"], *(one[0] for one in known[table]["scenarios"])]]
+    return [name for name in names if name in seen or seen.add(name)]
 
 
 def write_pages(known):

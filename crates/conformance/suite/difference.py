@@ -91,7 +91,9 @@ def difference(scenario, outcome, seconds):
 
 
 def first_line(scenario, outcome):
-    expected, found = scenario.records.split("\n"), outcome.found().split("\n")
+    if outcome.found() == scenario.read(".records"):
+        return None
+    expected, found = scenario.records.split("\n"), outcome.found().decode("latin-1").split("\n")
     for number in range(max(len(expected), len(found))):
         wanted = expected[number] if number < len(expected) else "no more lines"
         has = found[number] if number < len(found) else "no more lines"
@@ -115,8 +117,8 @@ FAULT = re.compile(r"^fault trace (\d+) ", re.MULTILINE)
 
 def told(line, outcome):
     """A line that was found, and what the device said of a failure."""
-    if line.startswith("status ") and outcome.error.strip():
-        return f"{line} ({shortened(outcome.error.strip().splitlines()[-1])})"
+    if line.startswith("status ") and outcome.said():
+        return f"{line} ({shortened(outcome.said()[-1])})"
     return line
 
 
@@ -126,6 +128,8 @@ def different_image(scenario, outcome):
             return None
         return Difference("an image afterwards", "none")
     wanted, has = scenario.image_after, outcome.image
+    if wanted == has:
+        return None
     if len(wanted) != len(has):
         return Difference(f"an image of {len(wanted)} bytes afterwards", f"one of {len(has)}")
     for start in range(0, len(wanted), SECTOR):

@@ -1,8 +1,8 @@
 """Whether what is made of the suite is there as its tables have it; where it isn't, it is made.
 
-All scenarios are made by `matrix/make`: from the tables of the matrix, and from those of data/rows. Of each table the file .made beside them says of
-which sources it was made, and the sizes of its files; so where nothing changed nothing is made. They are made in data, or in the user's
-cache where a package or another user owns the suite.
+All scenarios are made by `matrix/make`: from the tables of the matrix, and from those of data/rows. The files of a table's scenarios are in an
+archive, made/TABLE.zip in data, by their paths in data. The file .made says of each table of which sources it was made, and what its scenarios are;
+so where nothing changed nothing is made. They are made in data, or in the user's cache where a package or another user owns the suite.
 """
 import functools
 import hashlib
@@ -12,6 +12,7 @@ import pathlib
 import re
 import subprocess
 import sys
+import zipfile
 
 CRATE = os.path.dirname(os.path.dirname(os.path.abspath(__file__)))
 DATA, ROWS, MATRIX = os.path.join(CRATE, "data"), os.path.join(CRATE, "data", "rows"), os.path.join(CRATE, "matrix")
@@ -23,10 +24,13 @@ IS_OWN = os.access(DATA, os.W_OK) and not os.path.exists(PACKAGED)
 CACHE = os.path.join(os.environ.get("XDG_CACHE_HOME") or os.path.join(os.path.expanduser("~"), ".cache"), "kalyubos")
 # Where scenarios are made, and where else what is kept of a run goes.
 MADE, OUT = (DATA, os.path.join(CRATE, "out")) if IS_OWN else (os.path.join(CACHE, "data"), os.path.join(CACHE, "out"))
+SUMS = os.path.join(MATRIX, "SUMS")
 PARTS = ("scenarios", "matrix", "large")
 STATE, PAGES = os.path.join(MADE, ".made"), [os.path.join(MADE, name, "README.md") for name in PARTS] + [os.path.join(MADE, "MATRIX.md")]
 # The model, and the reader of traces beside it.
 MODEL = (os.path.join(CRATE, "mutants", "model.py"), os.path.join(CRATE, "mutants", "trace_text.py"))
+# What says which features a scenario has.
+OF_FEATURES = [os.path.join(CRATE, "suite", f"{name}.py") for name in ("calls", "features", "models", "trace")]
 # The modules that one stands on: `from .NAME import ..`, or `from . import NAME`.
 IMPORTED = re.compile(r"^from \.(?:(\w+) import | import (\w+)$)", re.MULTILINE)
 
@@ -74,8 +78,8 @@ def sources_of(table):
         if module not in found:
             found.add(module)
             waiting += imports_of(module)
-    own = [COMMON, os.path.join(DATA, f"{table}.rows")] if table.startswith("rows/") else MODEL
-    return [*(os.path.join(MATRIX, f"{module}.py") for module in sorted(found)), *own]
+    own = [COMMON, os.path.join(DATA, f"{table}.rows"), *MODEL] if table.startswith("rows/") else MODEL
+    return [*(os.path.join(MATRIX, f"{module}.py") for module in sorted(found)), *own, *OF_FEATURES]
 
 
 def key_of(table):
@@ -91,53 +95,64 @@ def state():
         return {}
 
 
+def archive_of(table):
+    """The archive with the files of a table's scenarios."""
+    return os.path.join(MADE, "made", f"{table}.zip")
+
+
 @functools.lru_cache(maxsize=None)
-def stamps_in(folder):
-    """The files of a folder of data by their names, each with its size and when it was written, made or not."""
-    found = {}
-    for root in dict.fromkeys((DATA, MADE)):
-        try:
-            with os.scandir(os.path.join(root, folder)) as entries:
-                for entry in entries:
-                    if entry.is_file():
-                        what = entry.stat()
-                        found[entry.name] = (what.st_size, what.st_mtime_ns)
-        except OSError:
-            pass
-    return found
+def opened(table, process):
+    """A table's archive, opened by this process: a file's place is shared with those that are forked off."""
+    return zipfile.ZipFile(archive_of(table))
 
 
-def place_of(path):
-    """Where a file of data is, by its path there: among those that are made, or else among the others."""
-    there = os.path.join(MADE, path)
-    return there if IS_OWN or os.path.exists(there) else os.path.join(DATA, path)
+def read(table, path):
+    """A file of a table's scenarios by its path in data, or None where there is none."""
+    try:
+        return opened(table, os.getpid()).read(path)
+    except KeyError:
+        return None
 
 
-def is_there(path, size):
-    """Whether a file of data has this size."""
-    folder, _, name = path.rpartition("/")
-    return stamps_in(folder).get(name, (None,))[0] == size
+def is_made(table, known):
+    """Whether a table is made as its sources have it."""
+    try:
+        return known[table]["key"] == key_of(table) and os.path.getsize(archive_of(table)) == known[table]["packed"]
+    except (KeyError, OSError):
+        return False
 
 
-def stale(known):
-    """The tables that must be made, by what is known of those that are made."""
-    return [table for table in tables() if table not in known or known[table]["key"] != key_of(table)
-            or not all(is_there(path, size) for path, size in known[table]["files"].items())]
+def stale(known, wanted=None):
+    """The tables that must be made, of those that are wanted, by what is known of those that are made."""
+    return [table for table in wanted or tables() if not is_made(table, known)]
 
 
 def files():
     """The files that are made, as paths."""
-    paths = [path for one in state().values() for path in one["files"]]
-    return [pathlib.Path(path) for path in [STATE, *PAGES, *(os.path.join(MADE, path) for path in paths)]]
+    written = [path for part in PARTS for path in pathlib.Path(MADE, part).glob("*/*")]
+    return [*map(pathlib.Path, [STATE, *PAGES, *map(archive_of, tables())]), *written]
 
 
-def ensure():
-    """Makes what isn't there."""
+def ensure(subjects=()):
+    """Makes what isn't there: the tables of these subjects, or all. What is then known of those."""
     known = state()
-    if set(known) == set(tables()) and not stale(known) and all(map(os.path.exists, PAGES)):
-        return
-    print(f"The scenarios are made in {MADE}: about a minute of processor time at first.", file=sys.stderr, flush=True)
-    ran = subprocess.run([sys.executable, os.path.join(MATRIX, "make"), "--needed"], stdout=subprocess.PIPE, text=True)
-    stamps_in.cache_clear()
-    if ran.returncode:
-        raise Unmade(f"the scenarios can't be made: {ran.stdout.strip()}")
+    if not is_there(known, subjects):
+        print(f"The scenarios {f'of {chr(44).join(subjects)} ' if subjects else ''}are made in {MADE}.", file=sys.stderr, flush=True)
+        ran = subprocess.run([sys.executable, os.path.join(MATRIX, "make"), "--needed", *subjects], stdout=subprocess.PIPE, text=True)
+        if ran.returncode:
+            raise Unmade(f"the scenarios can't be made: {ran.stdout.strip()}")
+        known = state()
+    return known
+
+
+def is_there(known, subjects):
+    """Whether all that is wanted is made."""
+    if not subjects:
+        return set(known) == set(tables()) and not stale(known) and all(map(os.path.exists, PAGES))
+    of = {subject: table for table in known for subject in known[table].get("folders", ())}
+    return set(subjects) <= set(of) and not stale(known, {of[subject] for subject in subjects})
+
+
+def count():
+    """How many scenarios there are, by matrix/SUMS."""
+    return sum(int(line.split(" ")[1]) for line in text_of(SUMS).splitlines())

@@ -8,6 +8,8 @@ from .scenarios import Scenario
 
 # So many scenarios are named behind one that differs alike, and so many rules are quoted at most.
 NAMED, MOST = 3, 4
+# Why a scenario is left out that --only doesn't name.
+NOT_ASKED = "not asked for"
 
 
 @dataclasses.dataclass(eq=False)
@@ -99,9 +101,9 @@ def blocks(results):
             yield f"  {len(others)} more differ{'s' if len(others) == 1 else ''} alike: {names}"
 
 
-def reasons(results):
-    """Why scenarios were left out, and how many by each reason."""
-    found = {}
+def reasons(results, others=0):
+    """Why scenarios were left out, and how many by each reason; `others` weren't asked for, and not looked at."""
+    found = {NOT_ASKED: others} if others else {}
     for one in results:
         if not one.ran:
             found[one.left_out] = found.get(one.left_out, 0) + 1

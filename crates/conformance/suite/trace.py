@@ -2,6 +2,7 @@
 
 Lines that are none of a trace are passed over: some scenarios are about just those.
 """
+import functools
 import re
 
 import trace_text
@@ -216,13 +217,43 @@ def features_of(text, replies):
         found.add("regions")
     if any(slot.fields.get("mode") == "ro" for slot in slots):
         found.add("ro")
-    windows = {}
-    for event, reply in zip(events_of(text), replies):
-        try:
-            found |= features_in(event, reply, windows)
-        except ValueError:
-            break
+    windows, replies = {}, iter(replies)
+    try:
+        for line in text.split("\n"):
+            event, always = read_memory_line(line) if line.startswith(OF_MEMORY) else read_line(line)
+            if event is not None:
+                reply = next(replies)
+                found |= features_in(event, reply, windows) if always is None else always
+    except (ValueError, StopIteration):
+        pass
     return found
+
+
+# Lines that ask for no feature, and that are seldom alike.
+OF_MEMORY = ("mr ", "mw ")
+# The registers of which it depends on what came before and on the reply which features a driver speaks of.
+SPEAKING = (0x00c, 0x010, 0x014, 0x020, 0x024, 0x070)
+
+
+def read_memory_line(line):
+    """As read_line, without a look at the fields."""
+    if line.count(" ") != 3:
+        raise ValueError
+    return line, frozenset()
+
+
+@functools.lru_cache(maxsize=1 << 14)
+def read_line(line):
+    """An event and the features that it has whatever came before, or None if these depend on that. A line that is no event has none, and one
+    with a wrong number of fields is a ValueError."""
+    words = line.split(" ")
+    if words[0] not in trace_text.EVENTS:
+        return None, None
+    event = Event(words)
+    if len(words) != 1 + len(event.kinds):
+        raise ValueError
+    speaks = event.word in ("r", "w") and event["window"] in WINDOWS and event.fields["width"] == "4" and event["offset"] in SPEAKING
+    return event, None if speaks else features_in(event, "", {})
 
 
 def features_in(event, reply, windows):
