@@ -1,6 +1,7 @@
 """What stays true of pages: links lead somewhere, what they name is there, newcomers' sentences are short, and walks through a
 trace have its lines."""
 import functools
+import json
 import os
 import pathlib
 import re
@@ -87,9 +88,15 @@ NOT_OURS = {"virtio_console", "virtio_mmio"}
 NO_SOURCES = {".md", ".trace", ".records", ".after", ".before", ".fails", ".calls"}
 
 
+def scenario_names():
+    """The names of all scenarios, and of their subjects."""
+    state = json.loads((TOP / "crates/conformance/data/.made").read_text(encoding="utf-8"))
+    return {part for table in state.values() for name, *_ in table["scenarios"] for part in name.split("/")}
+
+
 def words():
-    """Names with an underscore that the pages have as code: each stands in a source, names a file, or is an anchor."""
-    known, found, wrong = set(NOT_OURS), 0, []
+    """Names with an underscore that the pages have as code: each stands in a source, names a file or a scenario, or is an anchor."""
+    known, found, wrong = NOT_OURS | scenario_names(), 0, []
     for folder, below, files in os.walk(TOP):
         below[:] = [name for name in below if name not in ("out", "target", ".git")]
         for path in (pathlib.Path(folder, name) for name in files):
