@@ -11,7 +11,8 @@ from .story import SECTOR
 
 TITLE = "Amounts of further devices"
 HOW = ("What waits in a device is filled up to its limit by one piece and by three; then comes less, as much and more than there is room for. "
-       "All is taken and shown, and so once more, past where a ring of as many bytes would turn. Frames of each length near an MTU's limit go in and are received. A "
+       "All is taken and shown, and so once more, past where a ring of as many bytes would turn. Of a full room one piece leaves and another comes, in turns. Up to 64 frames "
+       "are dropped before one that fits. An event has more than 65536 bytes, a chain 2^16 to 2^31. Frames of each length near an MTU's limit go in and are received. A "
        "header, a frame, a text, random bytes and a request's data lie in 1 to 250 buffers.")
 COLUMNS = ("What", "How much")
 FOLDERS = {"further_amounts": "What waits in further devices up to each limit, and chains in many buffers."}
@@ -32,10 +33,16 @@ def stories():
                 yield story(f"{name}_{way}", kind, script, is_packed, name.replace("_", " "), "up to its limit, and past it", way)
         for name, (kind, script) in COUNTED.items():
             yield story(name, kind, script, is_packed, name.replace("_", " "), "and what comes behind them")
+        for name, (kind, script) in REFILLED.items():
+            yield story(f"{name}_in_a_full_room", kind, script, is_packed, name.replace("_", " "), "one leaves a full room, and one comes")
+        for name, (kind, script) in LONG.items():
+            yield story(f"{name}_of_many_bytes", kind, script, is_packed, name.replace("_", " "), "2^16 to 2^31 bytes in a chain", length=LONGEST)
         for name, (kind, script) in IN_PARTS.items():
             yield story(f"{name}_in_many_buffers", kind, script, is_packed, name.replace("_", " "), "in 1 to 250 buffers")
     for name, (kind, fills) in APART.items():
         yield story(f"rooms_of_{name}", kind, rooms_apart(fills), False, f"rooms of {name.replace('_', ' ')}", "two that are full")
+    for name, (kind, script) in AT_ONCE.items():
+        yield story(f"{name}_in_one_event", kind, script, False, name.replace("_", " "), "more than 65536 bytes in one event")
     for mtu in MTUS:
         yield story(f"frames_of_an_mtu_of_{mtu}", f"network:525400000001:{mtu:x}", lengths, False, "a frame's length", "near the longest")
 
@@ -97,12 +104,12 @@ class One(Driver):
             self.look(begin, count)
 
 
-def story(name, kind, script, is_packed, what, how_much, *more):
+def story(name, kind, script, is_packed, what, how_much, *more, length=LENGTH):
     def written(life):
         script(One(life, kind, is_packed), *more)
 
     ring = "packed" if is_packed else "split"
-    return Life(f"further_amounts/{name}_{ring}", f"{what[0].upper()}{what[1:]}, {how_much}: a {ring} ring.", written, [Wide(0x80000000, LENGTH)], shows=[(what, how_much)])
+    return Life(f"further_amounts/{name}_{ring}", f"{what[0].upper()}{what[1:]}, {how_much}: a {ring} ring.", written, [Wide(0x80000000, length)], shows=[(what, how_much)])
 
 
 def rising(first_byte, count):
@@ -129,11 +136,11 @@ def comes_and_goes(limit, fill, more, empties):
 
 
 def typed(driver, content):
-    driver.of_host("supply", content.hex())
+    return driver.of_host("supply", content.hex())
 
 
 def framed(driver, content):
-    driver.of_host("frame", content.hex())
+    return driver.of_host("frame", content.hex())
 
 
 def too_much_typed(driver):
@@ -226,6 +233,19 @@ def many_sent(word):
     return script
 
 
+def frames_before(driver):
+    """So many frames are too long, then one fits, and another where there is room for it; 64 that are too long leave a chain on offer."""
+    for count in (1, 2, 3, 4, 7, 8, 9, 15, 16, 17, 31, 32, 33, 47, 48, 62, 63, 64):
+        for place in range(count):
+            assert framed(driver, rising(place, 21 + place % 5)) != "took:0"
+        for length in (20, 19)[:FRAMES - count]:
+            assert framed(driver, rising(count, length)) == f"took:{length:x}"
+        driver.chain(0, [Buffer(driver.room + ROOMS, HEADER + 20, WRITE)])
+        driver.shows_room(driver.room + ROOMS, HEADER + 21)
+        framed(driver, rising(count, 7))
+        received(driver, 64)
+
+
 CARD, CONSOLE = "network:525400000001:ffff", "console:50:19"
 FILLED = {
     "random_bytes": ("entropy", comes_and_goes(FEW, typed, too_much_typed, typed_and_received)),
@@ -237,7 +257,106 @@ FILLED = {
     "bytes_of_frames_that_are_dropped": (CARD, comes_and_goes(MANY, sends, sends_more(HEADER), taken("dsent"))),
 }
 COUNTED = {"64_frames_for_the_guest": (CARD, many_framed), "64_frames_for_the_host": (CARD, many_sent("take")),
-           "64_frames_that_are_dropped": (CARD, many_sent("dsent"))}
+           "64_frames_that_are_dropped": (CARD, many_sent("dsent")), "frames_before_one_that_fits": (CARD, frames_before)}
+
+
+# --- one piece of a full room
+
+# They fill a room of frames by their bytes, one by their count, and a room of bytes.
+BY_BYTES, BY_COUNT, OF_BYTES = (21845, 21844, 21846, 1), (1, 2, 3) * 21 + (1,), (1000, 1, 3000, 95)
+
+
+def refilled(comes, leaves, lengths):
+    """One piece leaves a full room, and one of its length comes, until the room's end was passed twice; a byte more has no room, where the reply tells it."""
+    def script(driver):
+        for turn in range(3 * len(lengths)):
+            length, is_full = lengths[turn % len(lengths)], turn >= len(lengths)
+            if is_full:
+                leaves(driver, length)
+            told = comes(driver, rising(turn, length))
+            assert told in (None, f"took:{length:x}")
+            if told and is_full:
+                assert comes(driver, b"\xe8") == "took:0"
+    return script
+
+
+def one_received(head):
+    def leaves(driver, length):
+        driver.chain(0, [Buffer(driver.room + ROOMS, head + length, WRITE)])
+        driver.shows_room(driver.room + ROOMS, head + length)
+    return leaves
+
+
+def one_taken(word):
+    return lambda driver, length: driver.of_host(word)
+
+
+WAYS_OF_FRAMES = {"for_the_guest": (framed, one_received(HEADER)), "for_the_host": (sends, one_taken("take")), "that_are_dropped": (sends, one_taken("dsent"))}
+REFILLED = {"typed_bytes": (CONSOLE, refilled(typed, one_received(0), OF_BYTES)), "random_bytes": ("entropy", refilled(typed, one_received(0), OF_BYTES)),
+            **{f"frames_{way}_by_{kind}": (CARD, refilled(*does, lengths)) for way, does in WAYS_OF_FRAMES.items()
+               for kind, lengths in (("bytes", BY_BYTES), ("count", BY_COUNT))}}
+
+
+# --- many bytes in one event, and in one chain
+
+LONGEST, BITS = 0x1100000, range(16, 32)
+
+
+def supplied_at_once(driver):
+    """However many come, as many are taken as there is room for; a chain then gets them all."""
+    for length in (0x101, 0x1001, 0xffff, 0x10000, 0x10004, 0x20003):
+        assert typed(driver, rising(length, length)) == f"took:{min(length, FEW):x}"
+        driver.chain(0, [Buffer(driver.room + ROOMS, 2 * FEW, WRITE)])
+        driver.shows_room(driver.room + ROOMS, FEW + 1)
+
+
+def framed_at_once(driver):
+    """Such a frame is too long, whatever its length is in fewer bits."""
+    for length in (0x10000, 0x10001, 0x10040, 0x20000, 0x20040):
+        assert framed(driver, rising(length, length)) == "baddevice"
+    driver.chain(0, [Buffer(driver.room + ROOMS, FEW, WRITE)])
+    assert framed(driver, b"\xe9") == "took:1"
+    driver.shows_room(driver.room + ROOMS, 64)
+
+
+AT_ONCE = {"random_bytes": ("entropy", supplied_at_once), "typed_bytes": (CONSOLE, supplied_at_once),
+           "frames": ("network:525400000001:5dc", framed_at_once)}
+
+
+def many(at, bit, more, flags):
+    """128 buffers of the same bytes, 2^bit of them together, and some more behind them."""
+    return [Buffer(at, 1 << bit - 7, flags)] * 128 + ([Buffer(at, more, flags)] if more else [])
+
+
+def long_texts(driver):
+    """Such a chain is never used; the driver begins anew behind it."""
+    for bit in BITS:
+        driver.bring_up(driver.device, Setup(True, driver.is_packed, 256))
+        driver.chain(1, many(driver.room + TEXTS, bit, 5, 0))
+        assert driver.of_host("take") == "b:-"
+
+
+def long_frames(driver):
+    """Such a frame is used and dropped, and one behind it waits."""
+    for bit in BITS:
+        driver.chain(1, many(driver.room + TEXTS, bit, HEADER + 5, 0))
+        sends(driver, rising(bit, 5))
+        assert driver.of_host("take") == f"b:{rising(bit, 5).hex()}"
+        assert driver.of_host("take") == "b:-"
+
+
+def long_rooms(comes, head):
+    """A chain with so much room gets the few bytes that there are."""
+    def script(driver):
+        for bit in BITS:
+            comes(driver, rising(bit, 7))
+            driver.chain(0, many(driver.room + ROOMS, bit, 0, WRITE))
+            driver.shows_room(driver.room + ROOMS, head + 8)
+    return script
+
+
+LONG = {"texts": (CONSOLE, long_texts), "frames_for_the_host": (CARD, long_frames), "rooms_of_a_console": (CONSOLE, long_rooms(typed, 0)),
+        "rooms_of_an_entropy_device": ("entropy", long_rooms(typed, 0)), "rooms_of_a_card": (CARD, long_rooms(framed, HEADER))}
 
 
 # --- rooms that are apart

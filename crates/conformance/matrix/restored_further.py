@@ -13,9 +13,10 @@ from .story import BASE
 
 TITLE = "Further devices restored"
 HOW = ("A window of each further device is restored with a ConfigGeneration near each end of its bytes, and the next change counts from there. With each Status, with "
-       "what a driver may accept and what it may not, and with a queue ready or not, a window stands so or the snapshot is refused. Each bit of the selectors, of QueueNum and "
-       "of the areas is restored. Chains passed, left and in flight are each of some numbers. With places in flight the next chain is taken ahead, and used at the place, near "
-       "the ring's ends. Holds are those of the snapshot, or of the disks, while another slot has something in flight.")
+       "what a driver may accept and what it may not, and with a queue ready or not, a window stands so or the snapshot is refused; so is one with some bytes more or "
+       "fewer at its end. Each bit of the selectors, of QueueNum and of the areas is restored. Chains passed, left and in flight are each of some numbers. With places in "
+       "flight the next chain is taken ahead, and used at the place, near the ring's ends. Holds are those of the snapshot, or of the disks, while another slot has "
+       "something in flight.")
 COLUMNS = ("What", "Device")
 FOLDERS = {"restored_further": "Windows of further devices from snapshots that were changed."}
 
@@ -36,6 +37,7 @@ def stories():
     for word, (queues, _) in KINDS.items():
         yield story(f"generations_of_{word}", word, generations, "ConfigGeneration")
         yield story(f"fields_of_{word}", word, fields, "each bit of the selectors, and of QueueNum and the areas of a queue that isn't ready")
+        yield story(f"ends_of_{word}", word, ends, "bytes behind a snapshot, and bytes that it lacks")
         yield story(f"statuses_of_{word}", word, statuses, "Status, what is accepted, InterruptStatus and QueueReady together")
         for is_packed in (False, True):
             ring = "packed" if is_packed else "split"
@@ -116,6 +118,25 @@ def restored_on_hold(driver, held, in_snapshot):
     for then in ("hold", "release"):
         for word, field in ((then, ""), (f"d{then}", "0"), (f"d{then}", "1")):
             driver.do(word, field)
+
+
+# --- where a snapshot ends
+
+def ends(driver, device):
+    """With no input that is pending, with some and with the most, a snapshot is whole; with bytes more or fewer it is none."""
+    for length, many in ((0, (1, 2, 3, 4, 7, 8, 16, 255, 256, 4096)), (5, (1, 4, 5, 6)), (4096, (1, 4, 4096))):
+        content = driver.snapshot(lambda own, windows: vars(own).update(pending=bytes(length)))
+        assert is_taken_up(driver, content)
+        at = len(content) - length - 4
+        others = [content[:at] + number(count, 4) + content[at + 4:] for count in range(max(0, length - 2), length + 3) if count != length]
+        others += [content + byte * count for count in many for byte in (b"\0", b"\1", b"\xff")] + [content[:-count] for count in many if count <= at]
+        for other in others:
+            assert not is_taken_up(driver, other)
+        driver.read(device, STATUS)
+
+
+def is_taken_up(driver, content):
+    return driver.do("st", content.hex()).split(" ")[1] == "done"
 
 
 # --- what a window has
