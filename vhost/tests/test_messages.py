@@ -298,6 +298,7 @@ def ends_over(program, *options):
 def test_two_programs_have_one_disk(make, *options):
     """As a machine that moves has them: where both say that they expect it, or where neither writes."""
     with make(*options) as program:
+        program.must_serve()
         ended = ends_over(program, *options)
         same(ended is None, options != (), f"whether it serves, and it said {ended}")
         if ended:
