@@ -6,10 +6,14 @@ import os
 import pathlib
 import re
 import shutil
+import sys
 
 from pages import anchors_of, is_elsewhere, links_of
 
 from .common import TOP, pages, script
+
+sys.path.insert(0, str(TOP / "crates/conformance/mutants"))
+import trace_text
 
 CODE = re.compile(r"^```[^\n]*\n(.*?)^```|`([^`\n]+)`", re.MULTILINE | re.DOTALL)
 
@@ -116,7 +120,7 @@ def words():
 def events(trace, records):
     """Each line of a trace with its record; the lines before the events have none."""
     told = iter(records.read_text().splitlines())
-    return [(line, "" if line.startswith(("vreplay", "kalyubos", "cache", "hosted", "slot")) else next(told)) for line in trace.read_text().splitlines()]
+    return [(line, next(told) if trace_text.is_event(line) else "") for line in trace.read_text().splitlines()]
 
 
 # What was true once, and must stand in no page and in no text that is packaged; and what is true.

@@ -86,7 +86,7 @@ def broken(dice, parts):
 
 def change_field(dice, lines, at):
     """A field is spelled otherwise."""
-    fields = lines[at].split(" ")
+    fields = trace_text.words_of(lines[at])
     place = dice.below(len(fields)) if dice.is_one_in(4) or len(fields) < 2 else 1 + dice.below(len(fields) - 1)
     fields[place] = otherwise(dice, fields[place])
     lines[at] = " ".join(fields)
@@ -108,7 +108,7 @@ def otherwise(dice, field):
 
 def change_fields(dice, lines, at):
     """A field more or less, or a space."""
-    fields = lines[at].split(" ")
+    fields = trace_text.words_of(lines[at])
     place = dice.below(len(fields) + 1)
     what = dice.below(5)
     if what == 0:

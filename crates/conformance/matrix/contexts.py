@@ -2,6 +2,8 @@
 import dataclasses
 import typing
 
+import trace_text
+
 from .drivers import (DRIVER_FEATURES, DRIVER_SEL, EVENT_IDX, INDIRECT, INDIRECT_DESC, KINDS, NEXT, NOTIFICATION_DATA, NOTIFY, QUEUE_READY, QUEUE_SEL,
                       STATUS, VERSION_1, WRITE, Buffer, Comes, number)
 from .requests import FLUSH, GET_ID, IDENTITY, IN, OUT, WRITE_ZEROES, header, segment
@@ -409,8 +411,9 @@ class Guest:
     def configuration(self, window):
         if window == "b":
             return {0x100: len(self.holds), 0x104: 0, 0x10c: 126, 0x114: 512, 0x130: 65536, 0x134: 32}
-        sizes = [line.split(" ")[2:] for line in self.story.lines if line.startswith(f"sz {self.slot:x} ")]
-        columns, rows = map(lambda field: int(field, 16), sizes[-1]) if sizes else (self.line.columns, self.line.rows)
+        sizes = [line for line in self.story.lines if line.startswith(f"sz {self.slot:x} ")]
+        last = trace_text.Line(trace_text.words_of(sizes[-1])) if sizes else None
+        columns, rows = (last["columns"], last["rows"]) if last else (self.line.columns, self.line.rows)
         return {0x100: rows << 16 | columns, 0x104: 0, 0x10c: 0}
 
     def is_fixed(self, queue):

@@ -1,6 +1,8 @@
 """Faults in a text that is cut, behind many lines, and in the last of many slots; and 64 wide slots."""
+from trace_text import EXTENDED
+
 from . import guests
-from .signs import EXTENDED, IDENTITY
+from .signs import IDENTITY
 from .spellings import SLOT
 from .story import BADRANGE, Slot, Story
 
@@ -115,7 +117,7 @@ def bad_event(first, count, kind, line, fault):
 
 def extended(story, disk="image"):
     """A story of 64 slots in an extended trace: over an image its records stay."""
-    lines = [in_regions(line, disk) for line in story.trace().split("\n")[1:-1]]
+    lines = [f"cache {story.cache:x}", *(slot.line(EXTENDED, disk=disk) for slot in story.slots), *story.lines]
     story.name = f"far/extended_{story.name.partition('/')[2]}"
     story.shows = [("each field of 64 slots", "in an extended trace")]
     story.trace = lambda: text_of([EXTENDED, *lines])
@@ -148,12 +150,6 @@ def disks():
     return story
 
 
-def in_regions(line, disk):
-    """A line of a plain trace as an extended one has it."""
-    word, *fields = line.split(" ")
-    return " ".join([word, f"{fields[0]}+{fields[1]}", disk, *fields[2:]]) if word == "slot" else line
-
-
 def regions_of_64_slots(name, disk):
     """Region k of a slot has k + 1 pages: its first and its last byte are inside, their neighbours aren't."""
     slots = [Slot(count=0, identity=guests.identity(slot)) for slot in range(64)]
@@ -170,7 +166,7 @@ def regions_of_64_slots(name, disk):
             story.look(first + count - 2, 2, bytes([0, count >> 12]), slot=slot)
             story.look(first + count - 1, 2, BADRANGE, slot=slot)
             story.look(first - 1, 2, BADRANGE, slot=slot)
-    lines = [f"slot {spelled(regions_of(at))} {disk} " + slot.line().split(" ", 3)[3] for at, slot in enumerate(slots)]
+    lines = [slot.line(EXTENDED, regions_of(at), disk) for at, slot in enumerate(slots)]
     story.trace = lambda: text_of([EXTENDED, "cache 8", *lines, *story.lines])
     return story
 
@@ -178,7 +174,3 @@ def regions_of_64_slots(name, disk):
 def regions_of(slot):
     """The regions of a slot, each with its first address and how many bytes it has."""
     return [((slot << 32) + (at + 1) * (0x100000 + 0x1000 * slot), 0x1000 * (at + 1)) for at in range(8)]
-
-
-def spelled(regions):
-    return ",".join(f"{first:x}+{count:x}" for first, count in regions)

@@ -5,6 +5,7 @@ the model's; each table's first scenario has them by hand.
 """
 import dataclasses
 
+from trace_text import words_of
 from mutants import model
 
 from .drivers import (ACKNOWLEDGE, AREAS, AVAIL, DESCRIPTOR, DRIVER, DRIVER_FEATURES, DRIVER_OK, DRIVER_SEL, FEATURES_OK, INDIRECT,
@@ -32,9 +33,8 @@ class Wide(Slot):
     disk: str = "image"
 
     def line(self):
-        regions = ",".join(f"{base:x}+{length:x}" for base, length in ((self.base, self.length), *self.others))
-        identity = (self.identity or model.IDENTITY).hex()
-        return f"slot {regions} {self.disk} {self.start:x} {self.count:x} {self.mode} {self.columns:x} {self.rows:x} {identity}"
+        named = self if self.identity else dataclasses.replace(self, identity=model.IDENTITY)
+        return Slot.line(named, EXTENDED, [(self.base, self.length), *self.others], self.disk)
 
 
 class Life(Story):
@@ -54,13 +54,13 @@ class Life(Story):
     def begin(self):
         """The board, as the model has it."""
         self.disk = model.Image(self.before(), set(self.fails or ()))
-        fields = [model.slot_of(self.head()[0], slot.line().split(" ")) for slot in self.slots]
+        fields = [model.slot_of(self.head()[0], words_of(slot.line())) for slot in self.slots]
         self.board = model.board_of(fields, self.cache, self.disk, (), largest=2**32 if self.extended else 2**28)
         self.told = model.hosted_record_of if self.hosted else model.record_of
 
     def do(self, line):
         """Writes an event down, and answers its record."""
-        word, *fields = line.split(" ")
+        word, *fields = words_of(line)
         record = self.told(self.board, word, fields)
         self.lines.append(line)
         self.records.append(record)

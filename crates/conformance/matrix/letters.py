@@ -1,6 +1,8 @@
 """Each place of each line of a trace: a hexadecimal letter in upper case, a tab, a blank."""
+from trace_text import EXTENDED
+
 from .spellings import FAULTS
-from .story import Slot, Story
+from .story import OneLine
 
 TITLE = "Letters, tabs and blanks"
 HOW = ("Each line that a trace of any format has is written out with letters in all of its numbers. Letters are in upper case, each alone; a tab stands for "
@@ -8,7 +10,6 @@ HOW = ("Each line that a trace of any format has is written out with letters in 
 COLUMNS = ("What", "Where")
 FOLDERS = {"bits_letters": "One letter of a line in upper case, or one tab or blank too many."}
 
-EXTENDED = "kalyubos 1"
 IDENTITY = ("identity", "abcdef0123456789fedcbaabcdefabcdefabcdef")
 NUMBER = (64, "abcdefabcdefabcd")
 # The fields of each line: their kinds, or how many bits a number may have, and a right spelling with letters.
@@ -41,23 +42,6 @@ LINES = [
 KINDS = FAULTS | {"regions": "Number", "kind": "Choice", "verdict": "Choice", "link": "Choice"}
 
 
-class Text(Story):
-    """A trace of one slot in which a line stands in the place of another, or behind it."""
-
-    def __init__(self, name, about, first, number, line, fault, what):
-        slot = Slot(identity=None if first == "vreplay 1" else bytes(20))
-        super().__init__(f"bits_letters/{name}", about, [slot], fault=f"trace {number} {fault}", shows=[what])
-        self.first, self.number, self.line = first, number, line
-
-    def trace(self):
-        slot = self.slots[0].line()
-        if self.first == EXTENDED:
-            slot = "slot 80000000+10000 image " + slot.split(" ", 3)[3]
-        lines = [self.first, "cache 8", slot]
-        lines[self.number - 1:self.number] = [self.line]
-        return "\n".join(lines) + "\n"
-
-
 def stories():
     seen, kinds = {}, set()
     for first, word, fields, number in LINES:
@@ -68,7 +52,7 @@ def stories():
     for version in ("vreplay 1", "vreplay 2", EXTENDED):
         for how, line in (("a_blank_at_its_end", f"{version} "), ("a_tab_at_its_end", f"{version}\t"), ("a_tab_for_its_blank", version.replace(" ", "\t")),
                           ("a_tab_before_it", f"\t{version}"), ("two_blanks", version.replace(" ", "  "))):
-            yield Text(f"line_1_{version.replace(' ', '_')}_with_{how}", f"Line 1 with {how.replace('_', ' ')} is a fault.", line, 1, line, "Header",
+            yield OneLine(f"bits_letters/line_1_{version.replace(' ', '_')}_with_{how}", f"Line 1 with {how.replace('_', ' ')} is a fault.", line, 1, line, "Header",
                        ("line 1", "tabs and blanks"))
 
 
@@ -87,7 +71,7 @@ def in_upper_case(first, word, name, fields, number, kinds):
         known = (kind, len(right)) in kinds and kind not in ("kind", "disk")
         for at in sorted({letters[0], letters[len(letters) // 2], letters[-1]}) if known else letters:
             spelled = right[:at] + right[at].upper() + right[at + 1:]
-            yield Text(f"field_{place + 1}_of_{name}_with_{right[at]}_as_letter_{at + 1}", f"Letter {at + 1} of field {place + 1} of a line `{word}` is in upper case: that is a fault.",
+            yield OneLine(f"bits_letters/field_{place + 1}_of_{name}_with_{right[at]}_as_letter_{at + 1}", f"Letter {at + 1} of field {place + 1} of a line `{word}` is in upper case: that is a fault.",
                        first, number, lined(word, fields, place, spelled), KINDS.get(kind, "Number"), (f"letters of `{word}`", "each in upper case, alone"))
         kinds.add((kind, len(right)))
 
@@ -99,16 +83,16 @@ def with_tabs(first, word, name, fields, number):
     for how, line, fault in (("a_blank_at_its_end", f"{right} ", "Fields"), ("a_tab_before_it", f"\t{right}", "Word"), ("a_tab_behind_its_word", right.replace(" ", "\t ", 1), "Word"),
                              ("a_tab_for_its_first_blank", right.replace(" ", "\t", 1), "Word"), ("two_blanks_behind_its_word", right.replace(" ", "  ", 1), "Fields"),
                              ("a_tab_in_a_field_of_its_own", f"{right} \t", "Fields")):
-        yield Text(f"{name}_with_{how}", f"A line `{word}` with {how.replace('_', ' ')} is a fault.", first, number, line, fault, what)
+        yield OneLine(f"bits_letters/{name}_with_{how}", f"A line `{word}` with {how.replace('_', ' ')} is a fault.", first, number, line, fault, what)
     for place, (kind, spelled) in enumerate(fields):
         # The kind of a device says how many fields there are.
         fault = "Fields" if spelled in ("disk", "image") else KINDS.get(kind, "Number")
         tabs = (("before", f"\t{spelled}"), ("behind", f"{spelled}\t"), ("within", f"{spelled[:len(spelled) // 2]}\t{spelled[len(spelled) // 2:]}"))
         for turn, (how, wrong) in enumerate(tabs):
             if (place + len(right)) % 3 == turn or place == len(fields) - 1:
-                yield Text(f"{name}_with_a_tab_{how}_field_{place + 1}", f"A line `{word}` with a tab {how} field {place + 1} is a fault.", first, number,
+                yield OneLine(f"bits_letters/{name}_with_a_tab_{how}_field_{place + 1}", f"A line `{word}` with a tab {how} field {place + 1} is a fault.", first, number,
                            lined(word, fields, place, wrong), fault, what)
         if place:
             cut = " ".join([word, *(one for _, one in fields[:place])]) + "\t" + " ".join(one for _, one in fields[place:])
-            yield Text(f"{name}_with_a_tab_for_the_blank_before_field_{place + 1}", f"A line `{word}` with a tab for the blank before field {place + 1} is a fault.", first, number,
+            yield OneLine(f"bits_letters/{name}_with_a_tab_for_the_blank_before_field_{place + 1}", f"A line `{word}` with a tab for the blank before field {place + 1} is a fault.", first, number,
                        cut, "Fields", what)

@@ -1,6 +1,8 @@
 """Numbers with a prefix or a sign, and long fields of bytes that are wrong at their end, in each line that has one."""
+from trace_text import EXTENDED
+
 from .spellings import LINES, NUMBERS, SLOT
-from .story import Slot, Story
+from .story import OneLine
 
 TITLE = "Prefixes, signs and long fields"
 HOW = ("A number has a prefix, a sign, or another mark that a library's reader of numbers takes: that is Number, in a "
@@ -10,7 +12,6 @@ FOLDERS = {"bits_signs": "Numbers with a prefix or a sign.",
            "bits_long_fields": "Long fields of bytes that are wrong at their end."}
 
 IDENTITY = ("identity", "6469736b2d62" + "00" * 14)
-EXTENDED = "kalyubos 1"
 # The lines that version 2 and an extended trace have otherwise than version 1.
 SLOT_OF_VERSION_2 = {"slot_of_version_2": [*SLOT, IDENTITY]}
 EXTENDED_LINES = {"slot_of_an_extended_trace": [("regions", "80000000+10000"), ("disk", "image"), *SLOT[2:], IDENTITY],
@@ -31,23 +32,6 @@ ENDS = {"a_digit_too_few": lambda right: right[:-1], "a_digit_too_many": lambda 
         "a_capital_as_its_last_digit": lambda right: right[:-1] + "F",
         "a_capital_as_its_last_but_one": lambda right: right[:-2] + "A" + right[-1],
         "another_letter_as_its_last_digit": lambda right: right[:-1] + "g"}
-
-
-class Text(Story):
-    """A trace of one slot in which a line stands in the place of another, or behind it."""
-
-    def __init__(self, name, about, first, number, line, fault, what):
-        slot = Slot(identity=None if first == "vreplay 1" else bytes(20))
-        super().__init__(name, about, [slot], fault=f"trace {number} {fault}", shows=[what])
-        self.first, self.number, self.line = first, number, line
-
-    def trace(self):
-        slot = self.slots[0].line()
-        if self.first == EXTENDED:
-            slot = "slot 80000000+10000 image " + slot.split(" ", 3)[3]
-        lines = [self.first, "cache 8", slot]
-        lines[self.number - 1:self.number] = [self.line]
-        return "\n".join(lines) + "\n"
 
 
 def stories():
@@ -86,13 +70,13 @@ def of_field(first, name, fields, place, how, spelled, fault, folder="bits_signs
     about = f"Field {place + 1} of a line `{word}` {how.replace('_', ' ')} is a fault."
     is_long = folder == "bits_long_fields"
     what = (f"long bytes of `{word}`", "each wrong end") if is_long else (f"each number of `{word}`", "each mark")
-    return Text(f"{folder}/field_{place + 1}_of_{name}_{how}", about, first, NUMBERS.get(word, 4),
+    return OneLine(f"{folder}/field_{place + 1}_of_{name}_{how}", about, first, NUMBERS.get(word, 4),
                 " ".join([word, *texts]), fault, what)
 
 
 def first_line(line):
     name = line.replace(" ", "_").replace("+", "plus_").replace("-", "minus_")
-    return Text(f"bits_signs/line_1_of_{name}", f"Line 1 is `{line}`: that is a fault.", line, 1, line, "Header",
+    return OneLine(f"bits_signs/line_1_of_{name}", f"Line 1 is `{line}`: that is a fault.", line, 1, line, "Header",
                 ("the version in line 1", "each mark"))
 
 
@@ -105,7 +89,7 @@ def regions():
             numbers[place] = mark.format(numbers[place])
             line = "slot {}+{},{}+{} ".format(*numbers) + rest
             about = f"The {what.replace('_', ' ')} of two regions {how.replace('_', ' ')} is a fault."
-            yield Text(f"bits_signs/{what}_of_slot_{how}", about, EXTENDED, 3, line, "Number",
+            yield OneLine(f"bits_signs/{what}_of_slot_{how}", about, EXTENDED, 3, line, "Number",
                        ("each number of the regions of `slot`", "each mark"))
 
 

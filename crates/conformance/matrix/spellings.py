@@ -1,7 +1,7 @@
 """Each field of each line of a trace, spelled wrong in each way."""
-from mutants.model import EXTENDED
+from trace_text import EXTENDED, FIRST_LINES
 
-from .story import Slot, Story
+from .story import OneLine
 
 TITLE = "Spellings"
 HOW = "One field of one line is spelled otherwise than it may be, in a trace that is right but for that."
@@ -33,33 +33,20 @@ CHOICES = {"mode": {"in_upper_case": "RW", "cut": "r", "too_long": "rww", "that_
 NUMBERS = {"cache": 2, "slot": 3}
 
 
-class Text(Story):
-    """A trace of one slot in which a line is put in the place of another, or behind it."""
-
-    def __init__(self, name, about, version, number, line, fault, what):
-        slot = Slot(identity=bytes(20) if version == 2 else None)
-        super().__init__(f"bits_spellings/{name}", about, [slot], fault=f"trace {number} {fault}", shows=[what])
-        self.number, self.line, self.first = number, line, f"vreplay {version}" if version else EXTENDED
-
-    def trace(self):
-        lines = [self.first, *super().trace().split("\n")[1:-1]]
-        lines[self.number - 1:self.number] = [self.line]
-        return "\n".join(lines) + "\n"
-
-
 def stories():
     for name, fields in LINES.items():
         word, version = name.split("_")[0], 2 if name.endswith("version_2") else 1
+        first = FIRST_LINES[version - 1]
         for place, (kind, right) in enumerate(fields):
             for how, wrong in spellings(kind, right).items():
                 spelled = [wrong if at == place else one for at, (_, one) in enumerate(fields)]
-                yield Text(f"field_{place + 1}_of_{name}_{how}", f"Field {place + 1} of a line `{word}` {how.replace('_', ' ')} is a fault.",
-                           version, NUMBERS.get(word, 4), " ".join([word, *spelled]), FAULTS.get(kind, "Number"),
-                           (f"each field of `{word}`" + (" in version 2" if version == 2 else ""), "each spelling that is none"))
+                yield OneLine(f"bits_spellings/field_{place + 1}_of_{name}_{how}", f"Field {place + 1} of a line `{word}` {how.replace('_', ' ')} is a fault.",
+                              first, NUMBERS.get(word, 4), " ".join([word, *spelled]), FAULTS.get(kind, "Number"),
+                              (f"each field of `{word}`" + (" in version 2" if version == 2 else ""), "each spelling that is none"))
     for how, wrong in spellings("disk", "image").items():
         line = " ".join(["slot 80000000+10000", wrong, *(one for _, one in SLOT[2:]), "00" * 20])
-        yield Text(f"disk_of_slot_{how}", f"Who has the disk {how.replace('_', ' ')} is a fault.", 0, 3, line, "Choice",
-                   ("who has the disk in `slot`", "each spelling that is none"))
+        yield OneLine(f"bits_spellings/disk_of_slot_{how}", f"Who has the disk {how.replace('_', ' ')} is a fault.", EXTENDED, 3, line, "Choice",
+                      ("who has the disk in `slot`", "each spelling that is none"))
 
 
 def spellings(kind, right):

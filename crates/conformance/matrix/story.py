@@ -43,9 +43,11 @@ class Slot:
     rows: int = 0x19
     identity: typing.Optional[bytes] = None
 
-    def line(self):
-        numbers = f"slot {self.base:x} {self.length:x} {self.start:x} {self.count:x} {self.mode} {self.columns:x} {self.rows:x}"
-        return numbers if self.identity is None else f"{numbers} {self.identity.hex()}"
+    def line(self, first=None, regions=None, disk="image"):
+        """Its line in a trace with this first line, else in the first version that says all of it; with one region, if it has no others."""
+        first = first or trace_text.FIRST_LINES[self.identity is not None]
+        return trace_text.slot_line(first, regions or [(self.base, self.length)], disk, self.start, self.count, self.mode, self.columns, self.rows,
+                                    identity=self.identity)
 
 
 class Said(typing.NamedTuple):
@@ -183,6 +185,20 @@ class Story:
         for line, said, record in zip(self.lines, self.said, records):
             if record != said.whole() and not said.is_met_by(record):
                 raise Disagrees(f"{self.name}: {line[:100]}: said {str(said)[:100]}, the model {record[:100]}")
+
+
+class OneLine(Story):
+    """A trace of one slot with this first line, in which a line stands in the place of another, or behind it: that is a fault."""
+
+    def __init__(self, name, about, first, number, line, fault, what):
+        slot = Slot(identity=None if first == trace_text.FIRST else bytes(20))
+        super().__init__(name, about, [slot], fault=f"trace {number} {fault}", shows=[what])
+        self.first, self.number, self.line = first, number, line
+
+    def trace(self):
+        lines = [self.first, "cache 8", self.slots[0].line(self.first)]
+        lines[self.number - 1:self.number] = [self.line]
+        return "\n".join(lines) + "\n"
 
 
 def changed(before, after):

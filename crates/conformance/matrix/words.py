@@ -1,6 +1,8 @@
 """The word of each line, spelled otherwise, with another mark beside it; and fields of many bytes."""
+from trace_text import FIRST
+
 from .spellings import LINES, NUMBERS
-from .story import BASE, Slot, Story
+from .story import BASE, OneLine, Slot, Story
 
 TITLE = "Words and marks"
 HOW = ("A mark that another format would allow stands behind the word of a line, before it, behind its last field or in the place of a space; "
@@ -13,19 +15,6 @@ MARKS = {"colon": ":", "comma": ",", "semicolon": ";", "dot": ".", "equals": "="
 WORDS = {name.split("_of_")[0]: fields for name, fields in LINES.items() if name not in ("w_of_width_1", "w_of_width_2", "slot_of_version_2")}
 FAMILIAR = {"r": "read", "w": "write", "mr": "memread", "mw": "memwrite", "in": "input", "sz": "size", "slot": "guest", "cache": "capacity"}
 LONG = (1 << 16) + 1
-
-
-class Text(Story):
-    """A trace of one slot with a line in the place of another, or behind it."""
-
-    def __init__(self, name, about, number, line, fault, what):
-        super().__init__(f"bits_words/{name}", about, [Slot()], fault=f"trace {number} {fault}", shows=[what])
-        self.number, self.line = number, line
-
-    def trace(self):
-        lines = super().trace().split("\n")[:-1]
-        lines[self.number - 1:self.number] = [self.line]
-        return "\n".join(lines) + "\n"
 
 
 def stories():
@@ -50,12 +39,11 @@ def article(name):
 
 def marked(word, how, line, fault, mark):
     about = f"{article(how).replace('_', ' ')} the word `{word}` is a fault."
-    return Text(f"{article(how)}_{word}", about[0].upper() + about[1:], NUMBERS.get(word, 4), line, fault, (f"marks beside `{word}`", mark))
+    return OneLine(f"bits_words/{article(how)}_{word}", about[0].upper() + about[1:], FIRST, NUMBERS.get(word, 4), line, fault, (f"marks beside `{word}`", mark))
 
 
 def first_line(how, line, mark):
-    story = Text(f"line_1_with_{how}", f"Line 1 with {how.replace('_', ' ')} is a fault.", 1, line, "Header", ("marks in line 1", mark))
-    return story
+    return OneLine(f"bits_words/line_1_with_{how}", f"Line 1 with {how.replace('_', ' ')} is a fault.", FIRST, 1, line, "Header", ("marks in line 1", mark))
 
 
 def spelled_words(word, right):
@@ -64,8 +52,8 @@ def spelled_words(word, right):
              "by_a_familiar_name": FAMILIAR[word], "with_an_s": word + "s"}
     for how, spelled in dict.fromkeys(found.items()):
         if how != "with_a_capital" or spelled != word.upper():
-            yield Text(f"word_{word}_{how}", f"The word `{word}` {how.replace('_', ' ')} is a fault.", NUMBERS.get(word, 4), f"{spelled} {right}", "Word",
-                       (f"other spellings of `{word}`", how.replace("_", " ")))
+            yield OneLine(f"bits_words/word_{word}_{how}", f"The word `{word}` {how.replace('_', ' ')} is a fault.", FIRST, NUMBERS.get(word, 4), f"{spelled} {right}", "Word",
+                          (f"other spellings of `{word}`", how.replace("_", " ")))
 
 
 def many_bytes():

@@ -81,7 +81,7 @@ def fault_in(text, line, had_event, first):
     """The kind of fault of one line of a trace with this first line, or none."""
     if line == 1:
         return None if text in FIRST_LINES else "Header"
-    word, *fields = text.split(" ")
+    word, *fields = words_of(text)
     if word not in LINES or (word == "cache") != (line == 2) or word in EXTENDED_WORDS and first != EXTENDED:
         return "Word"
     if word == "slot" and had_event:
@@ -207,6 +207,16 @@ def value_of(text, kind):
     return int(text, 16) if isinstance(kind, int) or kind in ("off", "wid", "val") else text
 
 
+def words_of(line):
+    """The words of a line, whether or not it is one of a trace."""
+    return line.split(" ")
+
+
+def is_event(line):
+    """Whether a line has an event's word."""
+    return words_of(line)[0] in EVENTS
+
+
 def bytes_of(field):
     return b"" if field == "-" else bytes.fromhex(field)
 
@@ -220,7 +230,7 @@ def parts_of_kind(text):
 
 def parts_of(text):
     """A trace's first line, the capacity of its cache, and the words of each slot line and of each event."""
-    lines = [line.split(" ") for line in text.split("\n")[:-1]]
+    lines = [words_of(line) for line in text.split("\n")[:-1]]
     slots = [words for words in lines if words[0] == "slot"]
     return " ".join(lines[0]), int(lines[1][1], 16), slots, lines[2 + len(slots):]
 
@@ -229,7 +239,7 @@ def events_of(text, kind=Line):
     """The events of a text, up to the first with other fields than it must have. Lines that have no event's word are passed over."""
     events = []
     for number, line in enumerate(text.split("\n"), 1):
-        words = line.split(" ")
+        words = words_of(line)
         if words[0] in EVENTS:
             event = kind(words, number=number)
             if len(words) != 1 + len(event.kinds):
@@ -241,7 +251,7 @@ def events_of(text, kind=Line):
 def slots_of(text):
     """The slot lines of a text."""
     first, *lines = text.split("\n")
-    return [Line(line.split(" "), first, number) for number, line in enumerate(lines, 2) if line.startswith("slot ")]
+    return [Line(words_of(line), first, number) for number, line in enumerate(lines, 2) if line.startswith("slot ")]
 
 
 # --- lines written

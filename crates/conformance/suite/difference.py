@@ -3,6 +3,8 @@ import dataclasses
 import re
 from typing import Optional
 
+import trace_text
+
 from . import trace
 from .scenarios import SECTOR
 
@@ -109,7 +111,7 @@ def where(scenario, number):
     fault = FAULT.search(scenario.records)
     lines = scenario.text.split("\n")
     at = int(fault[1]) if fault else 0
-    return None, trace.Event(lines[at - 1].split(" "), number=at) if 0 < at <= len(lines) else None
+    return None, trace.Event(trace_text.words_of(lines[at - 1]), number=at) if 0 < at <= len(lines) else None
 
 
 FAULT = re.compile(r"^fault trace (\d+) ", re.MULTILINE)

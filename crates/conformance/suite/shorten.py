@@ -44,7 +44,7 @@ class Shortened:
 
 def simpler_lines(line):
     """A line with one field simpler, the simplest first."""
-    event = trace_text.Line(line.split(" "))
+    event = trace_text.Line(trace_text.words_of(line))
     if event.word == "w" and event["value"]:
         yield " ".join(event.with_field("value", 0))
     if event.word in ("mw", "in"):
