@@ -10,6 +10,7 @@ import struct
 
 import trace_text
 from mutants import model
+from suite import calls
 
 DESCRIPTOR = struct.Struct("<QIHH")
 HALF, USED_ENTRY = struct.Struct("<H"), struct.Struct("<II")
@@ -268,6 +269,7 @@ def use():
     model.REPLIES.update(mr=memory_read, mw=memory_write)
     model.Queue.take, model.Queue.give, model.Slot.serve = take, give, serve
     model.Window.negotiated, model.Window.offered_bits, model.hosted_record_of = negotiated, offered_bits, hosted_record_of
+    calls.MODEL = vars(model)
 
 
 FAULT_IN, FAULT_OF, TAKE, GIVE, SERVE = trace_text.fault_in, trace_text.fault_of, model.Queue.take, model.Queue.give, model.Slot.serve

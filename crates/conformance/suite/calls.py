@@ -47,9 +47,12 @@ CACHES = (KeepsNothing, KeepsAll, KeepsZeroed, KeepsWhatWasRead, ForgetsTheOldes
 
 def decide(scenario):
     """Whether a model with another cache answers otherwise than the scenario's files say."""
-    text = scenario.read(".trace")
+    text, own = scenario.read(".trace"), MODEL["Cache"]
     fault = trace_text.fault_of(text)
-    return any(not passes(scenario, text, fault, cache) for cache in CACHES)
+    try:
+        return any(not passes(scenario, text, fault, cache) for cache in CACHES)
+    finally:
+        MODEL["Cache"] = own
 
 
 def passes(scenario, text, fault, cache):

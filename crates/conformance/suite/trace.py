@@ -4,6 +4,7 @@ Lines that are none of a trace are passed over: some scenarios are about just th
 """
 import functools
 import re
+import typing
 
 import trace_text
 from trace_text import slots_of
@@ -217,43 +218,62 @@ def features_of(text, replies):
         found.add("regions")
     if any(slot.fields.get("mode") == "ro" for slot in slots):
         found.add("ro")
-    windows, replies = {}, iter(replies)
-    try:
-        for line in text.split("\n"):
-            event, always = read_memory_line(line) if line.startswith(OF_MEMORY) else read_line(line)
-            if event is not None:
-                reply = next(replies)
-                found |= features_in(event, reply, windows) if always is None else always
-    except (ValueError, StopIteration):
-        pass
+    lines = text.split("\n")
+    told = {line: read_memory_line(line) if line.startswith(OF_MEMORY) else read_line(line) for line in set(lines)}
+    if any(read is WRONG for read in told.values()):
+        del lines[next(at for at, line in enumerate(lines) if told[line] is WRONG):]
+    events = [line for line in lines if told[line]][:len(replies)]
+    read = {line: told[line] for line in set(events)}
+    found.update(*{one.always for one in read.values()})
+    speaking, windows = {line for line in read if read[line].event}, {}
+    for line, reply in zip(events, replies) if speaking else ():
+        if line in speaking:
+            found |= features_in(read[line].event, reply, windows)
     return found
 
 
+class Read(typing.NamedTuple):
+    """A line that is an event: the features that it has whatever came before, and the event, if it has others besides."""
+
+    always: frozenset = frozenset()
+    event: typing.Optional[Event] = None
+
+
+# A line with the word of an event and other fields: no feature is read of it and of what is behind it.
+WRONG = Read(frozenset(["wrong"]))
+PLAIN = Read()
 # Lines that ask for no feature, and that are seldom alike.
 OF_MEMORY = ("mr ", "mw ")
-# The registers of which it depends on what came before and on the reply which features a driver speaks of.
-SPEAKING = (0x00c, 0x010, 0x014, 0x020, 0x024, 0x070)
 
 
 def read_memory_line(line):
     """As read_line, without a look at the fields."""
-    if line.count(" ") != 3:
-        raise ValueError
-    return line, frozenset()
+    return PLAIN if line.count(" ") == 3 else WRONG
 
 
 @functools.lru_cache(maxsize=1 << 14)
 def read_line(line):
-    """An event and the features that it has whatever came before, or None if these depend on that. A line that is no event has none, and one
-    with a wrong number of fields is a ValueError."""
-    words = line.split(" ")
+    """What is read of a line by itself; of one that is no event nothing."""
+    words = trace_text.words_of(line)
     if words[0] not in trace_text.EVENTS:
-        return None, None
+        return None
     event = Event(words)
     if len(words) != 1 + len(event.kinds):
-        raise ValueError
-    speaks = event.word in ("r", "w") and event["window"] in WINDOWS and event.fields["width"] == "4" and event["offset"] in SPEAKING
-    return event, None if speaks else features_in(event, "", {})
+        return WRONG
+    try:
+        found = frozenset(features_in(event, "", {}))
+        return Read(event=event) if speaks(event) else Read(found)
+    except ValueError:
+        return WRONG
+
+
+def speaks(event):
+    """Whether it depends on what came before, or on the reply, which features an access to a register speaks of."""
+    if event.word not in ("r", "w") or event["window"] not in WINDOWS or event.fields["width"] != "4":
+        return False
+    if event.word == "r":
+        return event["offset"] == 0x010
+    return event["offset"] in (0x014, 0x020, 0x024) or event["offset"] == 0x070 and event["value"] == 0
 
 
 def features_in(event, reply, windows):
