@@ -97,6 +97,21 @@ def take(queue, memory):
     return chain
 
 
+def written(chain, place, new):
+    """Writes over a chain's writable places from `place` on: buffers before it and behind the bytes aren't looked at."""
+    for address, length, is_writable in chain.buffers:
+        if not is_writable:
+            continue
+        if place >= length:
+            place -= length
+            continue
+        part = new[:length - place]
+        chain.memory.put(address + place, part)
+        new, place = new[len(part):], 0
+        if not new:
+            return
+
+
 def give(queue, memory, chain, length, wrote):
     """Gives a chain back: here in a split ring, in a memory of one region."""
     if queue.packed or len(memory.regions) > 1:
@@ -267,7 +282,7 @@ def use():
     """Puts these in the places of the model's and the reader's own."""
     model.Memory, model.descriptor, model.record_of, trace_text.fault_in, trace_text.fault_of = Memory, descriptor, record_of, fault_in, fault_of
     model.REPLIES.update(mr=memory_read, mw=memory_write)
-    model.Queue.take, model.Queue.give, model.Slot.serve = take, give, serve
+    model.Queue.take, model.Queue.give, model.Slot.serve, model.Chain.write = take, give, serve, written
     model.Window.negotiated, model.Window.offered_bits, model.hosted_record_of = negotiated, offered_bits, hosted_record_of
     calls.MODEL = vars(model)
 

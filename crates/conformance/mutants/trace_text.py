@@ -230,7 +230,7 @@ def parts_of_kind(text):
 
 def parts_of(text):
     """A trace's first line, the capacity of its cache, and the words of each slot line and of each event."""
-    lines = [words_of(line) for line in text.split("\n")[:-1]]
+    lines = [line.split(" ") for line in text.split("\n")[:-1]]
     slots = [words for words in lines if words[0] == "slot"]
     return " ".join(lines[0]), int(lines[1][1], 16), slots, lines[2 + len(slots):]
 

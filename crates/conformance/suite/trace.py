@@ -225,18 +225,18 @@ def features_of(text, replies):
     events = [line for line in lines if told[line]][:len(replies)]
     read = {line: told[line] for line in set(events)}
     found.update(*{one.always for one in read.values()})
-    speaking, windows = {line for line in read if read[line].event}, {}
+    speaking, windows = {line: one.access for line, one in read.items() if one.access}, {}
     for line, reply in zip(events, replies) if speaking else ():
         if line in speaking:
-            found |= features_in(read[line].event, reply, windows)
+            found |= features_at(*speaking[line], reply, windows)
     return found
 
 
 class Read(typing.NamedTuple):
-    """A line that is an event: the features that it has whatever came before, and the event, if it has others besides."""
+    """A line that is an event: the features that it has whatever came before, and its access to a register, if that may have others."""
 
     always: frozenset = frozenset()
-    event: typing.Optional[Event] = None
+    access: typing.Optional[tuple] = None
 
 
 # A line with the word of an event and other fields: no feature is read of it and of what is behind it.
@@ -262,7 +262,7 @@ def read_line(line):
         return WRONG
     try:
         found = frozenset(features_in(event, "", {}))
-        return Read(event=event) if speaks(event) else Read(found)
+        return Read(access=access_of(event)) if speaks(event) else Read(found)
     except ValueError:
         return WRONG
 
@@ -302,10 +302,21 @@ def features_in(event, reply, windows):
         return {feature for first, behind, feature in FIELDS[name] if byte < behind and end > first}
     if event.fields["width"] != "4":
         return set()
-    window = windows.setdefault((event["slot"], name), Window())
-    if event.word == "r":
-        return shown(name, offset, reply, window)
-    return written(name, offset, event["value"], window)
+    return features_at(*access_of(event), reply, windows)
+
+
+def access_of(event):
+    """An access to a register: whether it reads, the slot and the window, the offset, and what it writes."""
+    is_read = event.word == "r"
+    return is_read, (event["slot"], event["window"]), event["offset"], 0 if is_read else event["value"]
+
+
+def features_at(is_read, key, offset, value, reply, windows):
+    """The features of an access to a register."""
+    window = windows.get(key)
+    if window is None:
+        window = windows[key] = Window()
+    return shown(key[1], offset, reply, window) if is_read else written(key[1], offset, value, window)
 
 
 def shown(name, offset, reply, window):
