@@ -70,7 +70,7 @@ unproved-fast: unproved-fast-program
 unproved-fast-program:
 	@packaging/unproved --fast vreplay
 
-# The gate: every proof, the must-fail edits and the programs. It shows how far it is.
+# The gate: every proof and the programs. It shows how far it is.
 test:
 	@.ci/gate
 
