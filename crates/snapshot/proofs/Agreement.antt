@@ -26,9 +26,9 @@ drop_past (x ∷ xs) ys k =
 
 -- ---- in the front part alone
 
-pub front_of : (xs ys : List Field) (bytes rest : List ℕ) (n : ℕ) → n ≤ length xs
+pub front_alone : (xs ys : List Field) (bytes rest : List ℕ) (n : ℕ) → n ≤ length xs
     → BeginsWith bytes (xs ++ ys) n rest → BeginsWith bytes xs n rest
-front_of xs ys bytes rest n le h = record {
+front_alone xs ys bytes rest n le h = record {
   enough = le;
   text = h.text ∙ ap (λ (fs : List Field). joined fs ++ rest) (take-append-le n xs ys le);
 }

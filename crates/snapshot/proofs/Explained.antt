@@ -7,7 +7,7 @@ use Rattle.snapshot.specs.declared.fault.Why.{Why}
 use Rattle.snapshot.specs.Fields.{Field, joined}
 use Rattle.snapshot.specs.Faults.{BeginsWith, wrong_with}
 use Rattle.snapshot.specs.Reading.{◌>>=◌, ◌&◌, ◌&>◌, Reader, made}
-use Rattle.snapshot.proofs.Agreement.{behind_it, behind_of, drop_past, front_of, in_front, joined-append}
+use Rattle.snapshot.proofs.Agreement.{behind_it, behind_of, drop_past, front_alone, in_front, joined-append}
 use Rattle.snapshot.proofs.Exact.{IsBytes, IsField, Went, ok_is, refit, remade_field, then_field, went}
 
 -- what stops the reader, where a value goes on with these fields
@@ -78,9 +78,9 @@ module _ {A : Type 0} {read : Reader A} {text : A → List ℕ} {fields : A → 
   same_value bytes x y left rest e fits text_is =
       ok_is (y, rest) (x, left) (sym (read_again bytes y rest fits text_is) ∙ e)
 
-  pub front_read : (bytes : List ℕ) (x : A) (left : List ℕ) → IsBytes bytes → read bytes ≡ Ok (x, left)
+  pub front_spelled : (bytes : List ℕ) (x : A) (left : List ℕ) → IsBytes bytes → read bytes ≡ Ok (x, left)
       → bytes ≡ joined (fields x) ++ left
-  front_read bytes x left fits e =
+  front_spelled bytes x left fits e =
       (is.field.takes bytes x left fits e).0.parts ∙ ap (λ (t : List ℕ). t ++ left) (sym (is.joins x))
 
 -- ---- one field behind another
@@ -104,7 +104,7 @@ module _ {A B : Type 0} {first : Reader A} {text : A → List ℕ} {one : A → 
       elim (cases_lt n (length (one y.0))) [
         | inl lt ↦
             (let ended = of_first.ends bytes a y.0 mid rest n bs e fits
-            (front_of (one y.0) (other y.1) bytes rest n (omega arith) h) le in
+            (front_alone (one y.0) (other y.1) bytes rest n (omega arith) h) le in
             absurd (omega arith))
         | inr whole ↦
             (let parts = behind_of (one y.0) (other y.1) bytes rest n (n - length (one y.0)) (omega arith) h in
@@ -130,7 +130,7 @@ module _ {A B : Type 0} {first : Reader A} {text : A → List ℕ} {one : A → 
         → n ≤ s.count
     first_most y n rest fits h =
         elim (cases_lt n (length (one y.0))) [
-          | inl lt ↦ s.most y.0 n rest fits (front_of (one y.0) (other y.1) bytes rest n (omega arith) h)
+          | inl lt ↦ s.most y.0 n rest fits (front_alone (one y.0) (other y.1) bytes rest n (omega arith) h)
           | inr whole ↦ absurd (not_passed y n rest fits whole h)
         ]
 
@@ -143,7 +143,7 @@ module _ {A B : Type 0} {first : Reader A} {text : A → List ℕ} {one : A → 
               subst (λ (fs : List Field). StopsAt fs rest stop)
               (sym (drop-append-le s.count (one y.0) (other y.1) le))
               (stops_more (drop s.count (one y.0)) (other y.1) rest stop
-              (s.why y.0 rest fits (front_of (one y.0) (other y.1) bytes rest s.count le h))))
+              (s.why y.0 rest fits (front_alone (one y.0) (other y.1) bytes rest s.count le h))))
           | inr whole ↦ absurd (not_passed y s.count rest fits whole h)
         ]
 
@@ -233,7 +233,7 @@ module _ {A B : Type 0} {first : Reader A} {second : A → Reader B} {text : A �
       fits = ((of_first.field.takes bytes a mid bs e).1, s.fits);
       rest = s.rest;
       begins = behind_it (one a) (other s.value) bytes mid s.rest s.count
-          (front_read of_first bytes a mid bs e) s.begins;
+          (front_spelled of_first bytes a mid bs e) s.begins;
       most = λ y n rest fits h. second_most y n rest fits h;
       why = λ y rest fits h. second_why y rest fits h;
     }

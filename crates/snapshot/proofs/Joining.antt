@@ -1,10 +1,10 @@
 -- Texts, written one behind another.
 use mir.Val.{bool_byte}
-use Rattle.std.proofs.Common.{◌≡◌, ◌∙◌, ◌+◌, ◌≤◌, Bool, true, false, List, ℕ, [], ◌++◌, append_assoc, ap, arith, drop, length, length-append, refl, sym, take}
+use Rattle.std.proofs.Common.{◌≡◌, ◌∙◌, ◌+◌, ◌≤◌, Bool, true, false, List, Option, ℕ, ◌++◌, append_assoc, ap, arith, drop, length, length-append, refl, sym, take}
 use Rattle.std.proofs.lemmas.List.{drop-drop, drop_at, take_at}
 use Rattle.snapshot.specs.declared.saved.SavedSlot.{SavedSlot}
 use Rattle.snapshot.specs.Spelling as spelling
-use Rattle.snapshot.specs.Spelling.{IsSnapshot, Puts, SlotFits, flag, opening, slot, snapshot, version_of}
+use Rattle.snapshot.specs.Spelling.{IsSnapshot, Puts, SlotFits, WaitingFits, flag, front_of, input, opening, slot, snapshot, version_of}
 use Rattle.std.specs.Int.{w32, to_le_bytes}
 
 -- one text behind another
@@ -19,31 +19,50 @@ pub flag_spelled : (b : Bool) → bool_byte b ≡ flag b
 flag_spelled true = refl
 flag_spelled false = refl
 
--- ---- a snapshot is its head and the pending input
+-- ---- a snapshot is its head, the pending input, and what waits
 
-pub snapshot_of_head : (s : SavedSlot) (front back head : List ℕ) (count : ℕ) → head ≡ spelling.head s count
-    → count ≡ length front + length back → snapshot s (front ++ back) ≡ head ++ (front ++ back)
-unfolding snapshot spelling.head
-snapshot_of_head s front back head count is counted =
+pub front_of_head : (s : SavedSlot) (waits : Bool) (front back head : List ℕ) (count : ℕ)
+    → head ≡ spelling.head s waits count → count ≡ length front + length back
+    → front_of s (front ++ back) waits ≡ head ++ (front ++ back)
+unfolding front_of spelling.head
+front_of_head s waits front back head count is counted =
     let all : length (front ++ back) ≡ count = length-append front back ∙ sym counted in
     rw (
       is,
       all,
-      append_assoc (opening (version_of s.devices.items)) (slot s ++ to_le_bytes w32 count) (front ++ back),
+      append_assoc (opening (version_of s.devices.items waits)) (slot s ++ to_le_bytes w32 count) (front ++ back),
       append_assoc (slot s) (to_le_bytes w32 count) (front ++ back),
     ) refl
 
-pub snapshot_len : (s : SavedSlot) (front back head : List ℕ) (count : ℕ) → head ≡ spelling.head s count
-    → count ≡ length front + length back
-    → length (snapshot s (front ++ back)) ≡ length head + length front + length back
-snapshot_len s front back head count is counted =
-    let text = ap (λ (xs : List ℕ). length xs) (snapshot_of_head s front back head count is counted) in
+pub front_len : (s : SavedSlot) (waits : Bool) (front back head : List ℕ) (count : ℕ)
+    → head ≡ spelling.head s waits count → count ≡ length front + length back
+    → length (front_of s (front ++ back) waits) ≡ length head + length front + length back
+front_len s waits front back head count is counted =
+    let text = ap (λ (xs : List ℕ). length xs) (front_of_head s waits front back head count is counted) in
     omega (arith, text, length-append head (front ++ back), length-append front back)
 
+opening_len : (version : ℕ) → length (opening version) ≡ 12
+opening_len version = refl
+
+-- it is as long with what waits as without
+pub same_len : (s : SavedSlot) (pending : List ℕ) (waits other : Bool)
+    → length (front_of s pending waits) ≡ length (front_of s pending other)
+unfolding front_of
+same_len s pending waits other =
+    let rest = slot s ++ input pending in
+    omega (
+      arith,
+      length-append (opening (version_of s.devices.items waits)) rest,
+      length-append (opening (version_of s.devices.items other)) rest,
+      opening_len (version_of s.devices.items waits),
+      opening_len (version_of s.devices.items other),
+    )
+
 pub snapshot_is : (s : SavedSlot) (front back : List ℕ) → SlotFits s → length front + length back ≤ 4096
-    → IsSnapshot (snapshot s (front ++ back)) s (front ++ back)
-snapshot_is s front back fits few =
-    record { spelled = refl; fits = fits; few = omega (arith, few, length-append front back) }
+    → (waiting : Option (List ℕ)) → WaitingFits s waiting
+    → IsSnapshot (snapshot s (front ++ back) waiting) s (front ++ back) waiting
+snapshot_is s front back fits few waiting waits =
+    record { spelled = refl; fits = fits; few = omega (arith, few, length-append front back); waits = waits }
 
 -- ---- in a buffer
 
@@ -72,9 +91,3 @@ all_put head front back dst n f b of_head of_front of_back =
     ap (λ (xs : List ℕ). take (n + f) xs ++ (back ++ drop b (drop (n + f) xs))) first
     ∙ put_behind (head ++ front) back dst (n + f) b long
     ∙ ap (λ (xs : List ℕ). xs ++ drop (n + f + b) dst) (append_assoc head front back)
-
--- ---- in new memory
-
-pub all_appended : (head front back i0 i1 i2 i3 : List ℕ) → i0 ≡ [] → i1 ≡ i0 ++ head → i2 ≡ i1 ++ front
-    → i3 ≡ i2 ++ back → i3 ≡ head ++ (front ++ back)
-all_appended head front back i0 i1 i2 i3 h0 h1 h2 h3 = rw (h3, h2, h1, h0) (append_assoc head front back)

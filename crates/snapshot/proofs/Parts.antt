@@ -318,7 +318,7 @@ has_some : (ds : List SavedDevice) → 1 ≤ length ds → has ds ≡ true
 has_some [] some = absurd (omega arith)
 has_some (d ∷ ds) some = refl
 
-some_there : (ds : List SavedDevice) → has ds ≡ true → 1 ≤ length ds
+pub some_there : (ds : List SavedDevice) → has ds ≡ true → 1 ≤ length ds
 some_there [] is = absurd cc
 some_there (d ∷ ds) is = omega arith
 
@@ -397,8 +397,3 @@ slot_read further =
         (is.0.1.1.0, (is.0.1.1.1.0, (is.0.1.1.1.1, is.1))),
       ),
     ))
-
--- ---- all that stands before the pending input
-
-abbrev pub HeadFits : SavedSlot × ℕ → Type 0
-HeadFits h = SlotFits h.0 × (h.1 ≤ 4096)

@@ -2,8 +2,8 @@
 use Rattle.std.proofs.Common.{◌≡◌, ◌==◌, eq-eqb, inl, inr, ℕ, zero, suc, ◌^◌, ◌<◌, ◌≤◌, Bool, true, false, cond, ltb, List, [], ◌∷◌, ◌++◌, length, take, drop, Ok, Err, refl, sym, ap, ◌∙◌, arith}
 use Rattle.std.specs.Int.{Width, w16, w32, w64, byte_len, from_le_bytes, to_le_bytes}
 use Rattle.std.proofs.lemmas.Bool.{and_parts, eqb-true, le-leb, le-ltb, leb-true, lt-ltb, ltb-false, ltb-true}
-use Rattle.std.specs.Prelude.{◌&&◌, ◌||◌, ◌⊎◌, nat_le, replicate}
-use Rattle.std.proofs.lemmas.List.{append-nil, length-replicate}
+use Rattle.std.specs.Prelude.{◌&&◌, nat_le, replicate}
+use Rattle.std.proofs.lemmas.List.{length-replicate}
 use Rattle.mmio_window.specs.declared.interrupts.Interrupts.{Interrupts}
 use Rattle.mmio_window.specs.Interrupts.{interrupt_bits}
 use Rattle.snapshot.specs.declared.fault.Stop.{Stop}
@@ -13,7 +13,7 @@ use Rattle.snapshot.specs.Fields.{Field, field}
 use Rattle.snapshot.specs.Reading.{byte_at, constant_at, count_at, flag_at, bytes_at, device_count_at, interrupts_at, number_at, tested_at, version_at}
 use Rattle.snapshot.specs.Spelling.{flag}
 use Rattle.snapshot.proofs.Exact.{Always, IsBytes, IsField, IsWide, Takes, byte_field, chosen, guard_ok, bytes_field, number_field, tested_field, wide16, wide32, wide64}
-use Rattle.snapshot.proofs.Explained.{IsRead, StopsAt, alone_read, failed, failing_is, remade_read}
+use Rattle.snapshot.proofs.Explained.{IsRead, StopsAt, alone_read, failed, failing_is}
 
 -- ---- how a field stops a reader
 
@@ -220,59 +220,31 @@ bytes_read n =
 
 -- ---- the version, and how many further devices there are
 
-or_parts : (a b : Bool) → (a || b) ≡ true → (a ≡ true) ⊎ (b ≡ true)
-or_parts true b is = inl refl
-or_parts false b is = inr is
+in_range : (most n : ℕ) → (nat_le 1 n && nat_le n most) ≡ true → (1 ≤ n) × (n ≤ most)
+in_range most n is = let parts = and_parts _ _ is in (leb-true 1 n parts.0, leb-true n most parts.1)
 
-one_or_two : (n : ℕ) → (n == 1 || n == 2) ≡ true → (n ≡ 1) ⊎ (n ≡ 2)
-one_or_two n is =
-    elim (or_parts (n == 1) (n == 2) is) [
-      | inl one ↦ inl (eqb-true n 1 one)
-      | inr two ↦ inr (eqb-true n 2 two)
-    ]
+is_in_range : (most n : ℕ) → most < 2 ^ 32 → (1 ≤ n) × (n ≤ most)
+    → (n < 2 ^ 32) × ((nat_le 1 n && nat_le n most) ≡ true)
+is_in_range most n small few = (omega (arith, few.1, small), rw (le-leb 1 n few.0, le-leb n most few.1) refl)
 
-is_version : (n : ℕ) → (n ≡ 1) ⊎ (n ≡ 2) → (n < 2 ^ 32) × ((n == 1 || n == 2) ≡ true)
-is_version n (inl is) = rw is (omega arith, refl)
-is_version n (inr is) = rw is (omega arith, refl)
+-- a number from 1 to so many
+ranged_read : (most : ℕ) (why : Why) → 1 ≤ most → most < 2 ^ 32
+    → IsRead (tested_at w32 (λ n. nat_le 1 n && nat_le n most) why) (to_le_bytes w32)
+    (λ n. numbered w32 why n ∷ []) (λ n. (1 ≤ n) × (n ≤ most))
+ranged_read most why some small =
+    let test : ℕ → Bool = λ n. nat_le 1 n && nat_le n most in
+    alone_read why (tested_field w32 (2 ^ 32) wide32 test why (λ n. (1 ≤ n) × (n ≤ most))
+    (λ n is. in_range most n is) (λ n few. is_in_range most n small few)) 1 (omega arith, some)
+    (λ bytes stop y e fits. tested_stops w32 (2 ^ 32) wide32 test why bytes stop y e)
 
-abbrev pub number_of : Bool → ℕ
-number_of further = cond further 2 1
+abbrev pub IsVersion : ℕ → Type 0
+IsVersion n = (1 ≤ n) × (n ≤ 3)
 
-number_back : (n : ℕ) → (n ≡ 1) ⊎ (n ≡ 2) → number_of (n == 2) ≡ n
-number_back n (inl is) = rw is refl
-number_back n (inr is) = rw is refl
-
-number_there : (further : Bool) → (number_of further == 2) ≡ further
-number_there true = refl
-number_there false = refl
-
-number_is : (further : Bool) → (number_of further ≡ 1) ⊎ (number_of further ≡ 2)
-number_is true = inr refl
-number_is false = inl refl
-
-pub version_read : IsRead version_at (λ b. to_le_bytes w32 (number_of b))
-    (λ b. numbered w32 Version (number_of b) ∷ []) (λ b. Always b)
-version_read =
-    let test : ℕ → Bool = λ n. n == 1 || n == 2 in
-    remade_read
-    (alone_read Version (tested_field w32 (2 ^ 32) wide32 test Version (λ n. (n ≡ 1) ⊎ (n ≡ 2))
-    (λ n is. one_or_two n is) (λ n is. is_version n is)) 1 (inl refl)
-    (λ bytes stop y e fits. tested_stops w32 (2 ^ 32) wide32 test Version bytes stop y e))
-    (λ n. n == 2) number_of _ _ _ (λ n is. number_back n is) (λ b fits. number_there b) (λ n is. tt)
-    (λ b fits. number_is b) (λ b fits. refl) (λ b fits. refl) (λ b. append-nil (to_le_bytes w32 (number_of b)))
+pub version_read : IsRead version_at (to_le_bytes w32) (λ n. numbered w32 Version n ∷ []) IsVersion
+version_read = ranged_read 3 Version (omega arith) (omega arith)
 
 abbrev pub IsFew : ℕ → Type 0
 IsFew n = (1 ≤ n) × (n ≤ 6)
 
-few_passes : (n : ℕ) → (nat_le 1 n && nat_le n 6) ≡ true → IsFew n
-few_passes n is = let parts = and_parts _ _ is in (leb-true 1 n parts.0, leb-true n 6 parts.1)
-
-is_few : (n : ℕ) → IsFew n → (n < 2 ^ 32) × ((nat_le 1 n && nat_le n 6) ≡ true)
-is_few n few = (omega (arith, few.1), rw (le-leb 1 n few.0, le-leb n 6 few.1) refl)
-
 pub device_count_read : IsRead device_count_at (to_le_bytes w32) (λ n. numbered w32 Choice n ∷ []) IsFew
-device_count_read =
-    let test : ℕ → Bool = λ n. nat_le 1 n && nat_le n 6 in
-    alone_read Choice (tested_field w32 (2 ^ 32) wide32 test Choice IsFew
-    (λ n is. few_passes n is) (λ n few. is_few n few)) 1 (omega arith, omega arith)
-    (λ bytes stop y e fits. tested_stops w32 (2 ^ 32) wide32 test Choice bytes stop y e)
+device_count_read = ranged_read 6 Choice (omega arith) (omega arith)

@@ -1,5 +1,5 @@
 -- A snapshot as its fields, from left to right.
-use Rattle.std.specs.Prelude.{ℕ, List, [], ◌∷◌, ◌++◌, Option, Some, None, length}
+use Rattle.std.specs.Prelude.{ℕ, List, [], ◌∷◌, ◌++◌, Bool, Option, Some, None, is_some, length}
 use Rattle.std.specs.Int.{w16, w32, w64, to_le_bytes}
 use Rattle.mmio_window.specs.declared.saved.Reached.{Reached}
 use Rattle.mmio_window.specs.declared.saved.SavedNegotiation.{SavedNegotiation}
@@ -116,9 +116,19 @@ abbrev pub count_field : ℕ → Field
 count_field count = record { bytes = to_le_bytes w32 count; wrong = TooMuchInput }
 
 -- all that stands before the pending input, of which there is so much
-unfoldable pub head_fields : SavedSlot → ℕ → List Field
-head_fields s count = opening_fields (version_of s.devices.items) ++ (slot_fields s ++ (count_field count ∷ []))
+unfoldable pub head_fields : SavedSlot → Bool → ℕ → List Field
+head_fields s waits count =
+    opening_fields (version_of s.devices.items waits) ++ (slot_fields s ++ (count_field count ∷ []))
 
--- The fields of a slot's snapshot with this pending input. That may be any bytes, so its fault is never told.
-abbrev pub snapshot_fields : SavedSlot → List ℕ → List Field
-snapshot_fields s pending = head_fields s (length pending) ++ (field pending ∷ [])
+-- All that stands before what waits. The pending input may be any bytes, so its fault is never told.
+abbrev pub front_fields : SavedSlot → List ℕ → Bool → List Field
+front_fields s pending waits = head_fields s waits (length pending) ++ (field pending ∷ [])
+
+-- what waits, of which the same is true
+abbrev pub waiting_fields : Option (List ℕ) → List Field
+waiting_fields None = []
+waiting_fields (Some waiting) = field waiting ∷ []
+
+-- the fields of a slot's snapshot with this pending input and this that waits
+abbrev pub snapshot_fields : SavedSlot → List ℕ → Option (List ℕ) → List Field
+snapshot_fields s pending waiting = front_fields s pending (is_some waiting) ++ waiting_fields waiting

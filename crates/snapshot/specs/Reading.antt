@@ -1,6 +1,6 @@
 -- How the reader goes from left to right: what its private functions give. What comes of it is said by
 -- `IsSnapshot` and `IsFirstFault`; a public clause cites `Gives` of this file alone.
-use Rattle.std.specs.Prelude.{◌≡◌, ◌==◌, ◌&&◌, ◌||◌, ℕ, zero, suc, Bool, true, false, List, [], ◌∷◌, length, take, drop, Option, Some, None, Result, Ok, Err, nat_le, nat_lt, if◌then◌else◌}
+use Rattle.std.specs.Prelude.{◌≡◌, ◌==◌, ◌&&◌, ℕ, zero, suc, Bool, true, false, List, [], ◌∷◌, length, take, drop, Option, Some, None, Result, Ok, Err, nat_le, nat_lt, if◌then◌else◌}
 use Rattle.std.specs.Int.{Width, w16, w32, w64, byte_len, from_le_bytes}
 use Rattle.arrayvec.specs.ArrayVec.{ArrayVec}
 use Rattle.mmio_window.specs.declared.interrupts.Interrupts.{Interrupts}
@@ -200,25 +200,29 @@ slot_at further =
 abbrev pub count_at : Reader ℕ
 count_at = tested_at w32 (λ count. nat_le count 4096) TooMuchInput
 
--- whether the version is that of a snapshot with further devices
-abbrev pub version_at : Reader Bool
-version_at = made (λ n. n == 2) (tested_at w32 (λ n. n == 1 || n == 2) Version)
+-- the version: 1, 2 or 3
+abbrev pub version_at : Reader ℕ
+version_at = tested_at w32 (λ n. nat_le 1 n && nat_le n 3) Version
 
--- all that stands before the pending input, and how much of that there is
-unfoldable pub head_at : Reader (SavedSlot × ℕ)
+-- All that stands before the pending input: the slot, whether what waits stands behind the input, and how much input is
+-- pending. The first version is of a slot without further devices, and only the third has what waits.
+unfoldable pub head_at : Reader (SavedSlot × Bool × ℕ)
 head_at =
-    made (λ x. (x.1.1.0, x.1.1.1))
-    (constant_at w64 magic Magic & (version_at &> (λ further. slot_at further & count_at)))
+    made (λ x. (x.1.1.0, x.1.0 == 3, x.1.1.1))
+    (constant_at w64 magic Magic & (version_at &> (λ version. slot_at (nat_lt 1 version) & count_at)))
 
--- the pending input, of which there is so much, to the end
-abbrev pub pending_at : ℕ → List ℕ → Result (List ℕ) Stop
-pending_at count rest =
-    if nat_lt (length rest) count then stop Short rest
-    else if nat_lt count (length rest) then stop Trailing (drop count rest)
-    else Ok rest
+-- the same with the pending input
+unfoldable pub front_at : Reader (SavedSlot × Bool × List ℕ)
+front_at = made (λ x. (x.0.0, x.0.1, x.1)) (head_at &> (λ head. bytes_at head.2))
 
-unfoldable pub whole_at : List ℕ → Result (SavedSlot × List ℕ) Stop
+-- what waits, to the end, where the snapshot has it
+abbrev pub waiting_at : Bool → List ℕ → Result (Option (List ℕ)) Stop
+waiting_at true rest = Ok (Some rest)
+waiting_at false [] = Ok None
+waiting_at false (byte ∷ rest) = stop Trailing (byte ∷ rest)
+
+unfoldable pub whole_at : List ℕ → Result (SavedSlot × List ℕ × Option (List ℕ)) Stop
 whole_at bytes = do
-  head ← head_at bytes
-  pending ← pending_at head.0.1 head.1
-  Ok (head.0.0, pending)
+  front ← front_at bytes
+  waiting ← waiting_at front.0.1 front.1
+  Ok (front.0.0, front.0.2, waiting)

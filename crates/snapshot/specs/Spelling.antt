@@ -1,5 +1,5 @@
 -- How a snapshot is spelled, byte by byte: numbers little-endian, one field behind another.
-use Rattle.std.specs.Prelude.{◌≡◌, ℕ, ◌+◌, ◌^◌, ◌<◌, ◌≤◌, Bool, IfSome, if◌then◌else◌, List, [], ◌∷◌, ◌++◌, Option, Some, None, length}
+use Rattle.std.specs.Prelude.{◌≡◌, ℕ, ◌+◌, ◌^◌, ◌<◌, ◌≤◌, Bool, true, false, IfSome, if◌then◌else◌, List, [], ◌∷◌, ◌++◌, Option, Some, None, length}
 use Rattle.std.specs.Int.{w16, w32, w64, to_le_bytes}
 use Rattle.mmio_window.specs.declared.saved.Reached.{Reached}
 use Rattle.mmio_window.specs.declared.saved.SavedNegotiation.{SavedNegotiation}
@@ -62,10 +62,11 @@ abbrev pub devices : List SavedDevice → List ℕ
 devices [] = []
 devices (d ∷ ds) = to_le_bytes w32 (length (d ∷ ds)) ++ each (d ∷ ds)
 
--- the version of a snapshot with these devices: the first has none
-abbrev pub version_of : List SavedDevice → ℕ
-version_of [] = 1
-version_of (d ∷ ds) = 2
+-- The version of a snapshot with these devices. The first has none, and only the third has what waits in them.
+abbrev pub version_of : List SavedDevice → Bool → ℕ
+version_of [] waits = 1
+version_of (d ∷ ds) false = 2
+version_of (d ∷ ds) true = 3
 
 -- ---- a slot
 
@@ -96,11 +97,17 @@ abbrev pub input : List ℕ → List ℕ
 input pending = to_le_bytes w32 (length pending) ++ pending
 
 -- all that stands before the pending input, of which there is so much
-unfoldable pub head : SavedSlot → ℕ → List ℕ
-head s count = opening (version_of s.devices.items) ++ (slot s ++ to_le_bytes w32 count)
+unfoldable pub head : SavedSlot → Bool → ℕ → List ℕ
+head s waits count = opening (version_of s.devices.items waits) ++ (slot s ++ to_le_bytes w32 count)
 
-unfoldable pub snapshot : SavedSlot → List ℕ → List ℕ
-snapshot s pending = opening (version_of s.devices.items) ++ (slot s ++ input pending)
+-- all that stands before what waits in the further devices
+unfoldable pub front_of : SavedSlot → List ℕ → Bool → List ℕ
+front_of s pending waits = opening (version_of s.devices.items waits) ++ (slot s ++ input pending)
+
+-- without what waits, and with it
+abbrev pub snapshot : SavedSlot → List ℕ → Option (List ℕ) → List ℕ
+snapshot s pending None = front_of s pending false
+snapshot s pending (Some waiting) = front_of s pending true ++ waiting
 
 -- ---- what has a spelling: each number has the size of its field
 
@@ -150,11 +157,18 @@ SlotFits s =
     × (((length s.identity ≡ 20) × ((s.cols < 2 ^ 16) × (s.rows < 2 ^ 16)))
     × (WindowFits s.block × (WindowFits s.console × DevicesFit s.devices.items)))
 
--- The bytes are the snapshot of a slot with this pending input: they spell both, and each has the size of its field.
-pub record IsSnapshot (bytes : List ℕ) (saved : SavedSlot) (pending : List ℕ) : Type 0 where
-  pub spelled : bytes ≡ snapshot saved pending
+-- something waits only in further devices
+abbrev pub WaitingFits : SavedSlot → Option (List ℕ) → Type 0
+WaitingFits s waiting = IfSome waiting (λ bytes. 1 ≤ length s.devices.items)
+
+-- The bytes are the snapshot of a slot with this pending input, and with this that waits in its further devices: they
+-- spell all three, and each has the size of its field.
+pub record IsSnapshot (bytes : List ℕ) (saved : SavedSlot) (pending : List ℕ)
+    (waiting : Option (List ℕ)) : Type 0 where
+  pub spelled : bytes ≡ snapshot saved pending waiting
   pub fits : SlotFits saved
   pub few : length pending ≤ 4096
+  pub waits : WaitingFits saved waiting
 
 -- ---- writing
 

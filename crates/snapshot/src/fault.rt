@@ -22,8 +22,8 @@ pub enum Why {
     /// The first eight bytes aren't those of a snapshot.
     #[error("this is no snapshot")]
     Magic,
-    /// The snapshot is of another version than 1 and 2.
-    #[error("a version other than 1 and 2")]
+    /// The snapshot is of another version than 1, 2 and 3.
+    #[error("a version other than 1, 2 and 3")]
     Version,
     /// A choice is none of those that there are.
     #[error("a value that the field can't have")]

@@ -4,40 +4,42 @@ ghost use Rattle.std.specs.Prelude.{◌≡◌, ◌<◌, ◌≤◌, ◌+◌, ◌*
 ghost use Rattle.std.specs.Int.{w16, w32, w64, to_le_bytes};
 ghost use Rattle.snapshot.specs.Spelling.{DeviceFits, DevicesFit, EachFits, MayReach, Puts, QueueFits, SlotFits, WindowFits, device, devices, each, head, queue, reached, slot, version_of, window};
 
-use crate::reading::{VERSION, VERSION_OF_DEVICES};
+use crate::reading::{VERSION, VERSION_OF_DEVICES, VERSION_OF_WAITING};
 use crate::saved::{SavedDevice, SavedSlot};
 use arrayvec::ArrayVec;
 use byteorder::{ByteOrder, LittleEndian};
 use mmio_window::{Reached, SavedQueue, SavedWindow};
 
-/// How long a snapshot is at most, beside the pending input.
+/// How long a snapshot is at most, beside the pending input and what waits.
 const MOST_FIXED: usize = 1206;
 
 /// Room for the front of a snapshot.
 pub(crate) type Head = ArrayVec<u8, MOST_FIXED>;
 
-/// The front of the snapshot of a slot with so much pending input.
+/// The front of the snapshot of a slot with so much pending input. What waits in its further devices stands behind that
+/// input or isn't saved.
 #[tactic(auto, unfolding(crate::specs::Spelling::head))]
-pub(crate) fn head_of(saved: &SavedSlot, pending: usize) -> Head
+pub(crate) fn head_of(saved: &SavedSlot, waits: bool, pending: usize) -> Head
     requires { pending ≤ 4096 }
-    ensures text { result.items ≡ head saved.now pending }
+    ensures text { result.items ≡ head saved.now waits pending }
     ensures fits { SlotFits saved.now }
     ensures len { length result.items ≤ 1206 }
 {
     let mut out = ArrayVec::new();
     put(&mut out, b"KALYUBOS");
-    put_u32(&mut out, version_of(saved));
+    put_u32(&mut out, version_of(saved, waits));
     put_slot(&mut out, saved);
     put_u32(&mut out, pending as u32);
     out
 }
 
-// The version of the snapshot of a slot.
-fn version_of(saved: &SavedSlot) -> u32
-    ensures { result ≡ version_of saved.now.devices.items }
+// The version of the snapshot of a slot, with what waits in its further devices or without.
+fn version_of(saved: &SavedSlot, waits: bool) -> u32
+    ensures { result ≡ version_of saved.now.devices.items waits }
 {
     match saved.devices.as_slice() {
         [] => VERSION,
+        [_, ..] if waits => VERSION_OF_WAITING,
         [_, ..] => VERSION_OF_DEVICES,
     }
 }

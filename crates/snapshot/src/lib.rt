@@ -14,4 +14,4 @@ pub use fault::{ShortBuffer, SnapshotFault, Why};
 pub use laws::{bytes_have_one_fault, fields_are_the_spelling};
 pub use reading::read;
 pub use saved::{MOST_DEVICES, SavedDevice, SavedSlot};
-pub use writing::{write, write_into, written_len};
+pub use writing::{write_into, written_len};

@@ -15,8 +15,8 @@ pub(crate) struct Reader<'a> {
 }
 
 impl<'a> Reader<'a> {
-    // As many bytes.
-    fn front(&mut self, len: usize) -> Result<&'a [u8], Stop>
+    /// As many bytes.
+    pub(crate) fn front(&mut self, len: usize) -> Result<&'a [u8], Stop>
         ensures { MatchResult result
             (λ front. (len ≤ length self.old.left.now) × (front.now ≡ take len self.old.left.now) × (self.new.left.now ≡ drop len self.old.left.now))
             (λ stop. (length self.old.left.now < len) × (stop ≡ record { why = Why.Short; left = length self.old.left.now })) }

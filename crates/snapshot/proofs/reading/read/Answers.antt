@@ -9,17 +9,17 @@ returns-in-Ok-clause-spelled c =
     whole_found c.args.bytes.now _ (λ i. omega (arith, c.type_inv.bytes i)) c.in-Ok.ensures
 
 pub returns-in-Ok-clause-only : goal.returns-in-Ok-clause-only
-returns-in-Ok-clause-only c = λ slot pending is.
-    ap Ok (ok_is (slot, pending) _ (sym (snapshot_read c.args.bytes.now slot pending is) ∙ c.in-Ok.ensures))
+returns-in-Ok-clause-only c = λ slot pending waiting is.
+    ap Ok (ok_is (slot, pending, waiting) _ (sym (snapshot_read c.args.bytes.now slot pending waiting is) ∙ c.in-Ok.ensures))
 
 pub returns-in-Ok-clause-exact : goal.returns-in-Ok-clause-exact
 returns-in-Ok-clause-exact c = λ fault is.
     let found = whole_found c.args.bytes.now _ (λ i. omega (arith, c.type_inv.bytes i)) c.in-Ok.ensures in
-    absurd (is.none _ _ found)
+    absurd (is.none _ _ _ found)
 
 pub returns-in-Err-clause-only : goal.returns-in-Err-clause-only
-returns-in-Err-clause-only c = λ slot pending is.
-    absurd (snapshot_or_stop c.args.bytes.now slot pending _ is c.in-Err.ensures)
+returns-in-Err-clause-only c = λ slot pending waiting is.
+    absurd (snapshot_or_stop c.args.bytes.now slot pending waiting _ is c.in-Err.ensures)
 
 pub returns-in-Err-clause-fault : goal.returns-in-Err-clause-fault
 returns-in-Err-clause-fault c =

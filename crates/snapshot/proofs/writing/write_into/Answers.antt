@@ -1,16 +1,16 @@
 use Rattle.std.proofs.Common.{◌≡◌, ◌+◌, ◌-◌, arith, length, refl}
-use Rattle.snapshot.proofs.Joining.{all_put, snapshot_len, snapshot_of_head}
+use Rattle.snapshot.proofs.Joining.{all_put, front_len, front_of_head}
 use Rattle.snapshot.proofs.writing.write_into.Goals as goal
 
 pub returns-then-into-len-clause-short : goal.returns-then-into-len-clause-short
 returns-then-into-len-clause-short c =
-    let long = snapshot_len c.args.saved.now c.args.front.now c.args.back.now c.head_of-head.result.items _
+    let long = front_len c.args.saved.now c.args.waits c.args.front.now c.args.back.now c.head_of-head.result.items _
     c.head_of-head.ensures.text refl in
     (λ is. omega (arith, long, c.len.ensures.value, c.if-into-len.true), λ less. refl)
 
 pub returns-clause-len : goal.returns-clause-len
 returns-clause-len c =
-    let long = snapshot_len c.args.saved.now c.args.front.now c.args.back.now c.head_of-head.result.items _
+    let long = front_len c.args.saved.now c.args.waits c.args.front.now c.args.back.now c.head_of-head.result.items _
     c.head_of-head.ensures.text refl in
     omega (arith, long, c.len.ensures.value)
 
@@ -24,7 +24,7 @@ returns-clause-text c =
     let three : c.len-3.result ≡ n = c.len-3.ensures.value in
     let width : n + f - n ≡ f = omega arith in
     let rest : n + f + b - (n + f) ≡ b = omega arith in
-    let text = snapshot_of_head c.args.saved.now c.args.front.now c.args.back.now c.head_of-head.result.items
+    let text = front_of_head c.args.saved.now c.args.waits c.args.front.now c.args.back.now c.head_of-head.result.items
     _ c.head_of-head.ensures.text refl in
     rw (
       one,
@@ -43,7 +43,7 @@ returns-clause-text c =
 
 pub returns-clause-short : goal.returns-clause-short
 returns-clause-short c =
-    let long = snapshot_len c.args.saved.now c.args.front.now c.args.back.now c.head_of-head.result.items _
+    let long = front_len c.args.saved.now c.args.waits c.args.front.now c.args.back.now c.head_of-head.result.items _
     c.head_of-head.ensures.text refl in (
       λ never. absurd (cc),
       λ less. absurd
