@@ -65,7 +65,8 @@ impl<A: Allocator> Pending<A> {
 
     /// How many there are.
     pub(crate) fn len(&self) -> usize
-        ensures { result ≡ length self.now }
+        ensures value { result ≡ length self.now }
+        ensures most { result ≤ 4096 }
     {
         self.ring.len()
     }

@@ -1,6 +1,6 @@
 //! A console as somebody sees it who only looks.
 
-ghost use Rattle.std.specs.Prelude.{◌≡◌, ◌++◌, length};
+ghost use Rattle.std.specs.Prelude.{◌≡◌, ◌≤◌, ◌++◌, length};
 
 use crate::device::ConsoleDevice;
 use std::alloc::Allocator;
@@ -8,7 +8,8 @@ use std::alloc::Allocator;
 impl<A: Allocator> ConsoleDevice<A> {
     /// How many bytes were typed that no buffer has taken yet.
     pub fn pending_len(&self) -> usize
-        ensures { result ≡ length self.now.pending }
+        ensures value { result ≡ length self.now.pending }
+        ensures most { result ≤ 4096 }
     {
         self.pending.len()
     }

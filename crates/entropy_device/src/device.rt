@@ -62,9 +62,20 @@ impl EntropyDevice {
         taken
     }
 
+    /// Puts these bytes in the place of the pool's.
+    pub fn restore(&mut self, pool: &[u8])
+        requires { length pool.now ≤ 4096 }
+        ensures { self.new ≡ pool.now }
+    {
+        self.bytes[..pool.len()].copy_from_slice(pool);
+        self.start = 0;
+        self.end = pool.len();
+    }
+
     /// The bytes in the pool.
     pub fn waiting(&self) -> &[u8]
-        ensures { result.now ≡ self.now }
+        ensures value { result.now ≡ self.now }
+        ensures most { length self.now ≤ 4096 }
     {
         &self.bytes[self.start..self.end]
     }

@@ -4,4 +4,5 @@ pub mod Fitting
 pub mod Receiving
 pub mod Rooms
 pub mod Rows
+pub mod Saving
 pub mod Transmitting

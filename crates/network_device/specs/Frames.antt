@@ -1,5 +1,5 @@
 -- Frames that wait, whole and in order, within limits of bytes and of number.
-use Rattle.std.specs.Prelude.{ℕ, ◌+◌, ◌&&◌, nat_lt, nat_le, Bool, List, [], ◌∷◌, length, take, drop}
+use Rattle.std.specs.Prelude.{ℕ, ◌+◌, ◌≤◌, ◌&&◌, nat_lt, nat_le, Bool, List, [], ◌∷◌, length, take, drop}
 use Rattle.network_device.specs.declared.limits.Limits.{Limits}
 
 -- how many bytes these frames have
@@ -11,6 +11,11 @@ total (frame ∷ frames) = length frame + total frames
 abbrev pub has_room : Limits → List (List ℕ) → ℕ → Bool
 has_room limits frames len =
     nat_lt (length frames) limits.frames && nat_le (total frames + len) limits.bytes
+
+-- these frames may wait together
+pub record IsWithin (limits : Limits) (frames : List (List ℕ)) : Type 0 where
+  pub count : length frames ≤ limits.frames
+  pub bytes : total frames ≤ limits.bytes
 
 -- What waits in a store: the frames, the bytes of one that is begun, and the limits.
 pub record Store : Type 0 where

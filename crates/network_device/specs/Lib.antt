@@ -4,4 +4,5 @@ pub mod Frames
 pub mod Header
 pub mod Network
 pub mod Receiving
+pub mod Saved
 pub mod Sending

@@ -84,6 +84,14 @@ impl<A: Allocator> ByteQueue<A> {
         };
     }
 
+    /// Takes all bytes away.
+    pub(crate) fn clear(&mut self)
+        ensures { self.new ≡ buffer [] self.old.capacity }
+    {
+        self.row.clear();
+        self.start = 0;
+    }
+
     /// Takes the first bytes away.
     #[tactic(auto, using(crate::proofs::Rows::taken, crate::proofs::Rows::all_taken))]
     #[inline(always)]

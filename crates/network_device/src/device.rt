@@ -3,6 +3,7 @@
 ghost use Rattle.std.specs.Prelude.{◌≡◌, ◌++◌, ◌∷◌, ◌≤◌, [], None, Some, IfOk, IfErr, OnOk, OnErr, length};
 ghost use Rattle.network_device.specs.Config.{config_of};
 ghost use Rattle.network_device.specs.Device.{passing};
+ghost use Rattle.network_device.specs.Frames.{IsWithin};
 ghost use Rattle.network_device.specs.Network.{Network, refusal};
 
 use crate::configuration::NetworkConfiguration;
@@ -10,6 +11,7 @@ use crate::limits::Limits;
 use crate::no_memory::NoMemory;
 use crate::outlet::FrameOutlet;
 use crate::refusal::FrameRefusal;
+use crate::saved::SavedFrames;
 use crate::store::FrameStore;
 use std::alloc::{Allocator, Global};
 use std::marker::Model;
@@ -94,6 +96,23 @@ impl<A: Allocator> NetworkDevice<A> {
         self.waiting.append(frame);
         self.waiting.end();
         Ok(())
+    }
+
+    /// The frames of the host that wait.
+    pub fn frames(&self) -> &FrameStore<A>
+        ensures frames { result.now.frames ≡ self.now.waiting.frames }
+        ensures limits { result.now.limits ≡ self.now.limits }
+    {
+        &self.waiting
+    }
+
+    /// Puts these frames of the host in the place of those that wait, and these counts of what was dropped, as `dropped` tells them.
+    pub fn restore(&mut self, frames: &SavedFrames<'_>, dropped: (u64, u64))
+        requires { IsWithin self.old.limits frames.now }
+        ensures { self.new ≡ record self.old { waiting = passing frames.now dropped.0; dropped = dropped.1 } }
+    {
+        self.waiting.restore(frames);
+        (self.dropped_in, self.dropped_out) = dropped;
     }
 
     /// Sets whether the link is up. Its window is told by the caller.

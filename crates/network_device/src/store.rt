@@ -15,10 +15,10 @@ use std::marker::Model;
 /// Frames within limits. All its memory is taken once.
 #[derive(Drop)]
 pub struct FrameStore<A: Allocator = Global> {
-    lens: HeapCircularBuffer<usize, A>,
-    bytes: ByteQueue<A>,
+    pub(crate) lens: HeapCircularBuffer<usize, A>,
+    pub(crate) bytes: ByteQueue<A>,
     // how many of the bytes are of frames that have ended
-    whole: usize,
+    pub(crate) whole: usize,
 }
 
 impl<A: Allocator> Model for FrameStore<A> {

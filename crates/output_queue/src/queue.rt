@@ -50,7 +50,8 @@ impl<A: Allocator> OutputQueue<A> {
 
     /// The bytes that wait, in two parts.
     pub fn waiting(&self) -> (&[u8], &[u8])
-        ensures { result.0.now ++ result.1.now ≡ self.now.bytes }
+        ensures parts { result.0.now ++ result.1.now ≡ self.now.bytes }
+        ensures limit { length self.now.bytes ≤ self.now.limit }
     {
         (&self.first[self.start..], self.later.as_slice())
     }
