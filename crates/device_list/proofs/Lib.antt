@@ -7,5 +7,7 @@ pub mod Pieces
 pub mod Sound
 pub mod Saved
 pub mod RoundTrip
+pub mod Standing
 pub mod Extents
 pub mod Disks
+pub mod Refilling

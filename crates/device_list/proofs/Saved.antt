@@ -1,8 +1,8 @@
 -- Devices one after another: what is said of the first and of the others is said of all.
 use Rattle.std.proofs.Common.{append-nil, append_assoc, ◌≡◌, ◌∙◌, ◌↔◌, ℕ, zero, suc, ◌-◌, ◌≤◌, ◌||◌, Option, Some, Bool, true, false, List, [], ◌∷◌, length, length-set, slice_index_or, take, drop, refl, sym, ap, subst, arith}
-use Rattle.std.specs.Prelude.{◌<◌, ◌++◌, None, IfSome, IsTrue, nat_le, slice_set}
+use Rattle.std.specs.Prelude.{◌<◌, ◌++◌, None, IfSome, IsSome, IsTrue, nat_le, slice_set}
 use Rattle.std.specs.List.{slice_get}
-use Rattle.std.specs.Option.{MatchOption, option_map}
+use Rattle.std.specs.Option.{MatchOption, option_and_then, option_map}
 use Rattle.guest_memory.specs.Memory.{Memory}
 use Rattle.mmio_window.specs.Saved.{saved_window, window_restored}
 use Rattle.mmio_window.specs.declared.saved.SavedWindow.{SavedWindow}
@@ -15,7 +15,7 @@ use Rattle.device_list.specs.declared.spec.DeviceSpec.{DeviceSpec}
 use Rattle.device_list.specs.Device.{DeviceState, IsSoundDevice}
 use Rattle.device_list.specs.List.{AreSoundDevices, are_at_work, has_bad_extent, refusal_of}
 use Rattle.device_list.specs.Model.{features_of, has_bad_disk, has_bad_mtu, is_at_work, kind_of}
-use Rattle.device_list.specs.Saved.{RestoresEach, SuitDevices, SuitsDevice, device_window_restored, first_restored, saved_device, saved_devices}
+use Rattle.device_list.specs.Saved.{RestoresEach, SuitDevices, SuitsDevice, device_window_restored, first_restored, saved_device, saved_devices, with_window}
 use Rattle.device_list.proofs.Sound.{all_sound, held_idle}
 
 all_taken : {A : Type 0} (xs : List A) → take (length xs) xs ≡ xs
@@ -116,6 +116,12 @@ got_still read old after items i d seen lt len same is =
 
 -- ---- the first devices, so many
 
+-- nothing was saved of the last of them
+pub none_saved : (m : Memory) (saved : List SavedDevice) (devices : List DeviceState) (count : ℕ) → 0 < count
+    → length saved ≤ count - 1 → first_restored m count saved devices ≡ None
+none_saved m saved devices zero some le = absurd (omega (arith, some))
+none_saved m saved devices (suc n) some le = rw (not_got saved n (omega (arith, le))) refl
+
 module _ (m : Memory) (saved : List SavedDevice) (devices : List DeviceState) (count : ℕ) (some : 0 < count)
     (s : SavedDevice) (within : count - 1 < length saved) (first : s ≡ slice_index_or saved (count - 1) s)
     (read : List DeviceState) (seen : read ≡ devices) where
@@ -134,7 +140,7 @@ module _ (m : Memory) (saved : List SavedDevice) (devices : List DeviceState) (c
       again None (rw (was_saved, none) refl)
 
   module _ (d : DeviceState) (lt : count - 1 < length read) (found : d ≡ slice_index_or read (count - 1) d) where
-    there : slice_get devices (count - 1) ≡ Some d
+    pub there : slice_get devices (count - 1) ≡ Some d
     there = got_in read devices (count - 1) d seen lt found
 
     pub none_stands : window_restored (kind_of d.model) m s.window ≡ None → first_restored m count saved devices ≡ None
@@ -144,6 +150,11 @@ module _ (m : Memory) (saved : List SavedDevice) (devices : List DeviceState) (c
       pub none_before : first_restored m (count - 1) saved devices ≡ None
           → first_restored m count saved devices ≡ None
       none_before none = again None (rw (was_saved, there, stands, none) refl)
+
+      pub all_stand : IsSome (option_and_then (with_window (count - 1) w) (first_restored m (count - 1) saved devices))
+          → IsSome (first_restored m count saved devices)
+      all_stand stand =
+          subst (λ (r : Option (List DeviceState)). IsSome r) (sym (again _ refl)) (rw (was_saved, there, stands) stand)
 
       pub all_before : (after items : List DeviceState) (here put : DeviceState)
           → first_restored m (count - 1) saved devices ≡ Some after → items ≡ after

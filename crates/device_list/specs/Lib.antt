@@ -5,3 +5,4 @@ pub mod List
 pub mod Model
 pub mod Saved
 pub mod Terminal
+pub mod Waiting

@@ -8,6 +8,8 @@ ghost use Rattle.network_device.specs.Config.{config_of};
 ghost use Rattle.network_device.specs.Network.{refusal};
 ghost use Rattle.device_list.specs.Card.{CardServesTo, fresh_card, is_card_starving, oldest_of, with_frame, with_link, without_oldest};
 
+mod saved;
+
 use chain::{Budget, Chain, Progress};
 use guest_memory::GuestMemory;
 use mmio_window::{CONFIGURATION_LEN, Stage, Window};
@@ -15,6 +17,7 @@ use network_device::{
     FrameRefusal, FrameStore, Limits, NetworkConfiguration, NetworkDevice, NoMemory, NoRoom,
     RECEIVEQ, TRANSMITQ,
 };
+pub(crate) use saved::SavedCard;
 use std::alloc::{Allocator, Global};
 use std::marker::Model;
 
@@ -40,7 +43,8 @@ impl<A: Allocator> Model for NetworkCard<A> {
 
     ghost view = { λ c. record { network = c.network; sent = c.sent.frames } };
 
-    ghost invariant = { λ c. (c.sent.begun ≡ []) × (c.sent.limits ≡ card_limits) };
+    ghost invariant = { λ c. ((c.sent.begun ≡ []) × (c.network.limits ≡ card_limits))
+        × (c.sent.limits ≡ card_limits) };
 }
 
 impl<A: Allocator + Copy> NetworkCard<A> {

@@ -11,6 +11,7 @@ ghost use Rattle.device_list.specs.Model.{has_bad_disk, has_bad_mtu, must_wait, 
 mod host;
 mod image;
 mod saved;
+mod waiting;
 
 use crate::model::DeviceModel;
 use crate::refusal::WriteRefusal;

@@ -15,6 +15,7 @@ mod model;
 mod refusal;
 mod spec;
 mod terminal;
+mod waiting;
 
 pub use block_device::HostEvent;
 pub use card::{CARD_LIMITS, NetworkCard};

@@ -10,6 +10,7 @@ ghost use Rattle.device_list.specs.List.{AreSoundDevices, DevicesServeTo, IsRefu
 mod host;
 mod image;
 mod saved;
+mod waiting;
 
 use crate::device::VirtioDevice;
 use crate::refusal::WriteRefusal;

@@ -8,6 +8,7 @@ ghost use Rattle.negotiation.specs.Features.{feature_bits};
 ghost use Rattle.device_list.specs.Model.{IsHeld, KeepsModel, ModelServesTo, config_of, configured, disk_of, features_of, fresh_model, has_bad_disk, has_bad_mtu, image_of, kind_of, must_wait, state_of};
 
 mod saved;
+mod waiting;
 
 use crate::card::NetworkCard;
 use crate::spec::DeviceSpec;

@@ -9,6 +9,8 @@ ghost use Rattle.console_device.specs.Config.{config_of, console_features};
 ghost use Rattle.console_device.specs.Input.{fitting};
 ghost use Rattle.device_list.specs.Terminal.{TerminalServesTo, fresh_terminal, is_terminal_starving, output_of, terminal_configured, with_emergency, with_size, with_typed, without_output};
 
+mod saved;
+
 use chain::{Budget, Chain, Progress};
 use console_device::{ConsoleDevice, EMERGENCY_WRITE, RECEIVEQ, TRANSMITQ};
 use guest_memory::GuestMemory;
@@ -16,6 +18,7 @@ use mmio_window::{CONFIGURATION_LEN, Stage, Window};
 use negotiation::Features;
 use network_device::NoMemory;
 use output_queue::OutputQueue;
+pub(crate) use saved::SavedTerminal;
 use std::alloc::{Allocator, Global};
 use std::marker::Model;
 

@@ -1,6 +1,6 @@
 //! What is saved of the devices, and devices that take it up.
 
-ghost use Rattle.std.specs.Prelude.{◌≡◌, ◌↔◌, ◌≤◌, ◌+◌, ◌++◌, ℕ, IsTrue, false, None, Some, length};
+ghost use Rattle.std.specs.Prelude.{◌≡◌, ◌↔◌, ◌≤◌, ◌+◌, ◌++◌, ℕ, IsSome, IsTrue, false, None, Some, length};
 ghost use Rattle.std.specs.List.{slice_get};
 ghost use Rattle.std.specs.Bool.{OnTrue, OnFalse};
 ghost use Rattle.guest_memory.specs.Memory.{Memory};
@@ -35,17 +35,22 @@ impl<A: Allocator> DeviceList<A> {
         each_suits(self.devices.as_slice(), saved)
     }
 
-    /// Restores each device's window over a guest's memory, where nothing is in flight. False where one of them can't stand so:
-    /// nothing has changed then.
-    pub fn restore<M: Allocator>(&mut self, saved: &[SavedDevice], mem: &GuestMemory<M>) -> bool
+    /// Whether each device's window, as it was saved, can stand over a guest's memory.
+    pub fn can_restore<M: Allocator>(&self, saved: &[SavedDevice], mem: &GuestMemory<M>) -> bool
+        ensures { IsTrue result ↔ IsSome (devices_restored mem.now saved.now self.now) }
+    {
+        can_stand(self.devices.as_slice(), saved.len(), saved, mem)
+    }
+
+    /// Restores each device's window over a guest's memory, where nothing is in flight and each can stand so.
+    pub fn restore<M: Allocator>(&mut self, saved: &[SavedDevice], mem: &GuestMemory<M>)
         requires idle { are_at_work self.old ≡ false }
-        ensures restored { OnTrue result (devices_restored mem.now saved.now self.old ≡ Some self.new) }
-        ensures refused { OnFalse result (devices_restored mem.now saved.now self.old ≡ None) }
-        ensures kept { OnFalse result (self.new ≡ self.old) }
+        requires stand { IsSome (devices_restored mem.now saved.now self.old) }
+        ensures restored { devices_restored mem.now saved.now self.old ≡ Some self.new }
         ensures sound { SuitDevices saved.now self.old → AreSoundDevices mem.now self.old →
             AreSoundDevices mem.now self.new }
     {
-        self.restore_first(saved.len(), saved, mem)
+        self.restore_first(saved.len(), saved, mem);
     }
 
     // Restores the windows of the first devices, so many. Each is put in its place once all before it can stand so.
@@ -95,6 +100,35 @@ fn save_each<A: Allocator>(devices: &[VirtioDevice<A>], out: &mut SavedDevices)
         out.push(device.saved());
         save_each(others, out);
     }
+}
+
+// Whether the windows of the first devices, so many, can stand as they were saved.
+fn can_stand<A: Allocator, M: Allocator>(
+    devices: &[VirtioDevice<A>],
+    count: usize,
+    saved: &[SavedDevice],
+    mem: &GuestMemory<M>,
+) -> bool
+    ensures stand { OnTrue result (IsSome (first_restored mem.now count saved.now devices.now)) }
+    ensures fall { OnFalse result (first_restored mem.now count saved.now devices.now ≡ None) }
+{
+    if count == 0 {
+        return true;
+    }
+    let at = count - 1;
+    let Some(first) = saved.get(at) else {
+        return false;
+    };
+    let Some(device) = devices.get(at) else {
+        return false;
+    };
+    let Some(_) = device.window_restored(&first.window, mem) else {
+        return false;
+    };
+    if !can_stand(devices, at, saved, mem) {
+        return false;
+    }
+    true
 }
 
 // Whether there are as many devices, and each suits what was saved of it.
