@@ -135,8 +135,9 @@ enum {
     KALYUBOS_NOT_HOSTED = 33,        /* the host serves the disk of a guest that runs on, which is no extent of an
                                         image */
     KALYUBOS_RUNS_ON = 34,           /* a guest that runs on is on no board; see kalyubos_guest_create */
-    KALYUBOS_BAD_EXTENT = 35         /* a disk over the image has no sectors, one that isn't a spare one, or one that
+    KALYUBOS_BAD_EXTENT = 35,        /* a disk over the image has no sectors, one that isn't a spare one, or one that
                                         another has */
+    KALYUBOS_BAD_WAITING = 36        /* the snapshot has in a further device what can't wait there; nothing changed */
 };
 
 /* What an answer says, as a sentence for a person. It is never null: a number of a later version has a sentence too. */
@@ -652,22 +653,22 @@ uint32_t kalyubos_last_fault(const struct kalyubos *board, uint8_t slot, uint8_t
 const char *kalyubos_fault_text(uint32_t kind);
 
 /*
- * How many bytes the slot's snapshot has: some 300, some 150 for each further device, and its pending input. It stays
- * so until the next call for the slot. BUSY while a service of the slot is paused, or an operation of one of its disks
- * is in flight.
+ * How many bytes the slot's snapshot has: some 300, some 150 for each further device, its pending input, and what waits
+ * in further devices. It stays so until the next call for the slot. BUSY while a service of the slot is paused, or an
+ * operation of one of its disks is in flight.
  */
 uint32_t kalyubos_saved_len(const struct kalyubos *board, uint8_t slot, size_t *len);
 
 /*
- * Writes the slot's snapshot to the front of `into`: what its devices keep, the pending input, and the description
- * of the slot. `written` is how many bytes it has; those behind them stay. BUSY as kalyubos_saved_len; SHORT_BUFFER
- * where `into` is shorter, and then nothing is written. Nothing of the board changes.
+ * Writes the slot's snapshot to the front of `into`: what its devices keep, the pending input, what waits in further
+ * devices each way, and the description of the slot. `written` is how many bytes it has; those behind them stay. BUSY as
+ * kalyubos_saved_len; SHORT_BUFFER where `into` is shorter, and then nothing is written. Nothing of the board changes.
  *
- * A snapshot has neither memory nor disk, nor the output that waits. Before it the host
+ * A snapshot has neither memory nor disk, nor the output of the slot's own console that waits. Before it the host
  *  - stops the guest's CPUs, and keeps a write that was answered NO_ROOM: its CPU makes it again behind the restore;
  *  - brings a paused service to its end by kalyubos_go_on;
  *  - puts each disk that it serves on hold by kalyubos_hold, and completes all that is in flight by kalyubos_completed;
- *  - takes the output, and by kalyubos_take_frame all that network cards and further consoles sent.
+ *  - takes the output.
  * Then, with no call for the slot between, it saves the devices, and copies the memory and the disk.
  */
 KALYUBOS_LOOK_AT_IT
@@ -681,20 +682,19 @@ uint32_t kalyubos_save(const struct kalyubos *board, uint8_t slot, uint8_t *into
  * what then waits.
  *
  * A slot whose own disk was on hold when it was saved is on hold behind this call, and kalyubos_release begins there what
- * stayed on offer. Only a slot whose disk the host serves takes such a snapshot; for another it is OTHER_SLOT. A hold
- * of a further disk isn't in a snapshot, and stays as it is; nor are a link, a further console's size, and what waits
- * in further devices.
+ * stayed on offer. Only a slot whose disk the host serves takes such a snapshot; for another it is OTHER_SLOT. Further
+ * devices are as they were: what waits in them, links, sizes, and which disks are on hold. A disk over the image never
+ * is. A snapshot of an earlier version has nothing of that, and it stays as it is.
  *
  * Each snapshot that kalyubos_save wrote of such a slot is taken. Of other bytes the first of BAD_SNAPSHOT,
- * OTHER_SLOT, OTHER_DEVICES and BAD_STATE that holds is answered, or they are taken as they spell: there is no
- * checksum. A snapshot that was changed on its way harms its own guest alone. BUSY as kalyubos_saved_len.
+ * OTHER_SLOT, OTHER_DEVICES, BAD_STATE and BAD_WAITING that holds is answered, or they are taken as they spell: there is
+ * no checksum. A snapshot that was changed on its way harms its own guest alone. BUSY as kalyubos_saved_len.
  *
- * Before it the host puts back the guest's memory and its disk, those of an image by the board that it makes, and sets
- * links and further consoles' sizes. Behind it the host
- *  - hands in what is to wait in further devices, and releases each disk that is on hold;
- *  - notifies each queue of each further device, since a driver that did so before the save doesn't again: it writes 0,
- *    then 1, to QueueNotify (0x050) of their windows by kalyubos_write. What is on offer is served, and else nothing
- *    happens;
+ * Before it the host puts back the guest's memory and its disk, those of an image by the board that it makes. Behind it
+ * the host
+ *  - releases each disk that is on hold;
+ *  - notifies each further disk that was on hold and now lies over the image: it writes 0 to QueueNotify (0x050) of its
+ *    window by kalyubos_write;
  *  - sets the lines of all windows, by kalyubos_lines;
  *  - makes a write again that was answered NO_ROOM, and starts the guest's CPUs.
  */

@@ -54,6 +54,8 @@ pub enum RestoreError {
     OtherDevices,
     /// The snapshot has a state that no driver can bring a window into.
     BadState,
+    /// The snapshot has in a further device what can't wait there.
+    BadWaiting,
     /// A number that this crate doesn't know, of a newer library.
     Other(u32),
 }
@@ -161,6 +163,7 @@ impl RestoreError {
             answers::OTHER_SLOT => Err(RestoreError::OtherSlot),
             answers::BAD_STATE => Err(RestoreError::BadState),
             answers::OTHER_DEVICES => Err(RestoreError::OtherDevices),
+            answers::BAD_WAITING => Err(RestoreError::BadWaiting),
             number => Err(RestoreError::Other(number)),
         }
     }
@@ -229,6 +232,7 @@ impl fmt::Display for RestoreError {
             OtherSlot => "the slot has another memory, another disk or other features",
             OtherDevices => "the snapshot has other devices",
             BadState => "the snapshot has a state that no driver can bring a window into",
+            BadWaiting => "the snapshot has in a further device what can't wait there",
             Other(number) => return write!(f, "the library answered {number}"),
         })
     }

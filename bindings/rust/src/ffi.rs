@@ -48,6 +48,7 @@ pub mod answers {
     pub const NOT_HOSTED: u32 = 33;
     pub const RUNS_ON: u32 = 34;
     pub const BAD_EXTENT: u32 = 35;
+    pub const BAD_WAITING: u32 = 36;
 }
 
 /// A slot's windows, each of 4096 bytes.

@@ -13,9 +13,10 @@ impl Board {
         Ok(len)
     }
 
-    /// A slot's snapshot: what its devices keep, the pending input, and the description of the slot.
+    /// A slot's snapshot: what its devices keep, the pending input, what waits in further devices, and the description of the
+    /// slot.
     ///
-    /// It has neither memory nor disk, nor the output that waits. Before it the host stops the guest's CPUs, brings a paused
+    /// It has neither memory nor disk, nor the output of the slot's own console that waits. Before it the host stops the guest's CPUs, brings a paused
     /// service to its end, puts the slot [on hold](Board::hold), completes what is in flight, and takes the output. Then,
     /// with no call for the slot between, it saves the devices, and copies the memory and the disk. [`Error::Busy`] as
     /// [`saved_len`](Board::saved_len).
@@ -68,8 +69,8 @@ impl Board {
     }
 
     /// Puts a slot's devices into the state of a [snapshot](Board::save) of a slot of the same description, of any
-    /// board, and tells what then waits. Memory and disk stay. A slot that was on hold when it was saved is so behind it:
-    /// [`release`](Board::release) begins there what stayed on offer.
+    /// board, and tells what then waits. Memory and disk stay. A disk that was on hold when it was saved is so behind it:
+    /// [`release`](Board::release) begins there what stayed on offer. In further devices waits what waited then.
     ///
     /// Before it the host puts back the guest's memory and its disk. Behind it the host sets the lines of all windows by
     /// [`lines`](Board::lines), makes a write again that was [`Error::NoRoom`], and starts the guest's CPUs.

@@ -17,8 +17,6 @@ use Rattle.hosted_disk.specs.Told.{DoesAsTold}
 use Rattle.device_list.specs.Card.{Card, with_frame, with_link}
 use Rattle.device_list.specs.Device.{DeviceState, Receives, ServesDevice, ServesNotified, TakesSent, Told, Writes, device_written, freed_by, linked, notified_by, resized, taking, with_model}
 use Rattle.device_list.specs.List.{At, are_at_work, changed_at, disk_at}
-use Rattle.snapshot.specs.declared.saved.SavedDevice.{SavedDevice}
-use Rattle.device_list.specs.Saved.{device_window_restored, first_restored, with_window}
 use Rattle.device_list.specs.Model.{Block, Console, Entropy, Image, ModelState, Network, Serves, configured, disk_of, supplied_model, with_card, with_terminal, without_sent}
 use Rattle.device_list.specs.Terminal.{Terminal, with_size}
 use Rattle.board.specs.declared.event.DeviceEvent.{DeviceEvent}
@@ -42,6 +40,7 @@ use Rattle.board.proofs.FurtherDevices.{of_device}
 use Rattle.board.proofs.HostedDisks.{further_over}
 use Rattle.board.proofs.Identities.{IsBesideDevices, given_fixed, readied_fixed}
 use Rattle.board.proofs.Lists.{get_set, others_kept}
+use Rattle.board.proofs.TakenUp.{host_at, taken_hosts}
 use Rattle.board.proofs.Units.{disk_there}
 use Rattle.board.proofs.Ways.{Looks, Passes, Rests, Says, Waits, Way, by_disk}
 
@@ -379,93 +378,19 @@ device_steps {A} n k what old before after outcome (Some d) there (inr refused) 
 
 -- ---- a restore
 
--- a device on this model stands there
-record StandsOn (n : ℕ) (model : ModelState) (devices : List DeviceState) : Type 0 where
-  device : DeviceState
-  there : slice_get devices n ≡ Some device
-  on : device.model ≡ model
-
-put_on : (n k : ℕ) (model : ModelState) (w : WindowState) (mid new : List DeviceState) (found : Option DeviceState)
-    → slice_get mid k ≡ found
-    → option_map (λ (e : DeviceState). slice_set mid k (record e { window = w })) found ≡ Some new
-    → StandsOn n model mid → StandsOn n model new
-put_on n k model w mid new None was is stands = absurd (cc is)
-put_on n k model w mid new (Some e) was is stands =
-    let put : new ≡ slice_set mid k (record e { window = w }) =
-    sym (same_Some (slice_set mid k (record e { window = w })) new is) in
-    elim (eqb_tells k n) [
-      | inl same ↦
-          let here : slice_get mid n ≡ Some e = ap (λ (j : ℕ). slice_get mid j) (sym same.1) ∙ was in
-          record {
-            device = record e { window = w };
-            there = ap (λ (l : List DeviceState). slice_get l n) put
-                ∙ (ap (λ (j : ℕ). slice_get (slice_set mid j (record e { window = w })) n) same.1
-                ∙ get_set mid n e (record e { window = w }) here);
-            on = ap (λ (x : DeviceState). x.model) (same_Some e stands.device (sym here ∙ stands.there)) ∙ stands.on;
-          }
-      | inr other ↦
-          record {
-            device = stands.device;
-            there = ap (λ (l : List DeviceState). slice_get l n) put
-                ∙ (others_kept mid k (record e { window = w }) n (λ same. other.1 (sym same)) ∙ stands.there);
-            on = stands.on;
-          }
-    ]
-
-restored_on : (m : Memory) (count n : ℕ) (model : ModelState) (saved : List SavedDevice) (devices new : List DeviceState)
-    → StandsOn n model devices → first_restored m count saved devices ≡ Some new → StandsOn n model new
-restored_on m zero n model saved devices new stands is =
-    subst (StandsOn n model) (same_Some devices new is) stands
-restored_on m (suc k) n model saved devices new stands is =
-    by_saved (λ mid before. restored_on m k n model saved devices mid stands before) (slice_get saved k) is
-  where
-    by_mid : ((mid : List DeviceState) → first_restored m k saved devices ≡ Some mid → StandsOn n model mid)
-        → (w : WindowState) (mid : Option (List DeviceState)) → first_restored m k saved devices ≡ mid
-        → option_and_then (with_window k w) mid ≡ Some new → StandsOn n model new
-    by_mid again w None before is = absurd (cc is)
-    by_mid again w (Some mid) before is = put_on n k model w mid new (slice_get mid k) refl is (again mid before)
-
-    by_window : ((mid : List DeviceState) → first_restored m k saved devices ≡ Some mid → StandsOn n model mid)
-        → (found : Option WindowState)
-        → option_and_then (λ window. option_and_then (with_window k window) (first_restored m k saved devices)) found
-        ≡ Some new → StandsOn n model new
-    by_window again None is = absurd (cc is)
-    by_window again (Some w) is = by_mid again w (first_restored m k saved devices) refl is
-
-    by_device : ((mid : List DeviceState) → first_restored m k saved devices ≡ Some mid → StandsOn n model mid)
-        → (of_device : SavedDevice) (found : Option DeviceState)
-        → option_and_then (λ device.
-        option_and_then (λ window. option_and_then (with_window k window) (first_restored m k saved devices))
-        (device_window_restored m of_device device)) found ≡ Some new → StandsOn n model new
-    by_device again of_device None is = absurd (cc is)
-    by_device again of_device (Some device) is = by_window again (device_window_restored m of_device device) is
-
-    by_saved : ((mid : List DeviceState) → first_restored m k saved devices ≡ Some mid → StandsOn n model mid)
-        → (found : Option SavedDevice)
-        → option_and_then (λ of_device.
-        option_and_then (λ device.
-        option_and_then (λ window. option_and_then (with_window k window) (first_restored m k saved devices))
-        (device_window_restored m of_device device)) (slice_get devices k)) found ≡ Some new → StandsOn n model new
-    by_saved again None is = absurd (cc is)
-    by_saved again (Some of_device) is = by_device again of_device (slice_get devices k) is
-
-taken_up : (A : Type 0) (n : ℕ) (old new : SlotState) (bytes : List ℕ) (found : Option DeviceState)
-    → slice_get old.devices n ≡ found → IsTakenUp old bytes new
+taken_up : (A : Type 0) (n : ℕ) (old new : SlotState) (bytes : List ℕ) → IsTakenUp old bytes new
     → StepsTo {A = A} (Further n) (event.Restore bytes) old new
-taken_up A n old new bytes None none h = comes {A = A} n (event.Restore bytes) old new none
-taken_up A n old new bytes (Some d) there h =
-    let saved = h.restored.saved.devices.items in
-    let stands = restored_on old.memory (length saved) n d.model saved old.devices new.devices
-    (record { device = d; there = there; on = refl }) h.restored.takes_up.devices in
-    Stays
-    (disk_of_device n new stands.device stands.there ∙ (ap disk_of stands.on ∙ sym (disk_of_device n old d there)))
+taken_up A n old new bytes h =
+    let takes = h.restored.takes_up in
+    Retakes (λ never. never) (host_at n old.devices new.devices
+    (taken_hosts old.memory h.restored.saved.devices.items h.restored.waiting old.devices new.devices takes.devices))
 
 restore_steps : {A : Type 0} (works : Bool) (n : ℕ) (bytes : List ℕ) (old : SlotState) (outcome : Outcome A)
     → RestoresUnless works old bytes outcome → StepsTo {A = A} (Further n) (event.Restore bytes) old outcome.state
 restore_steps {A} true n bytes old outcome h =
     further_stays {A = A} n (event.Restore bytes) old outcome.state (ap (λ (o : Outcome A). o.state.devices) h)
 restore_steps {A} false n bytes old outcome (inl h) =
-    taken_up A n old outcome.state bytes (slice_get old.devices n) refl h.0
+    taken_up A n old outcome.state bytes h.0
 restore_steps {A} false n bytes old outcome (inr h) =
     further_stays {A = A} n (event.Restore bytes) old outcome.state (ap (λ (o : Outcome A). o.state.devices) h.1)
 

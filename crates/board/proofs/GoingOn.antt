@@ -5,8 +5,6 @@ use Rattle.std.specs.List.{slice_get}
 use Rattle.std.specs.Option.{option_map}
 use Rattle.std.proofs.lemmas.Option.{same_Some}
 use Rattle.std.proofs.Math.Seq.{take-append_seam}
-use Rattle.device_list.specs.Saved.{AreOfModels}
-use Rattle.snapshot.specs.declared.saved.SavedSlot.{SavedSlot}
 use Rattle.snapshot.proofs.OfSlot.{snapshot_once}
 use Rattle.board.specs.declared.event.Event.{Event}
 use Rattle.board.specs.declared.event.EventKind.{EventKind}
@@ -22,13 +20,14 @@ use Rattle.board.specs.Machine.{IsToldAlone, RunsOnItsOwn}
 use Rattle.board.specs.Moving.{HasBytesOf, MovesTo, RanOnBoth, as_of}
 use Rattle.board.specs.Outcome.{Outcome}
 use Rattle.device_list.specs.List.{are_at_work}
+use Rattle.device_list.specs.Waiting.{AreMadeAlike}
 use Rattle.board.specs.Restoring.{IsTakenUp, RestoresUnless, slot_in}
 use Rattle.board.specs.Saved.{IsAs, IsLike, IsSavedTo, IsSnapshotOf, Suits, SuitsBesideDevices, saved_slot, snapshot_of}
 use Rattle.board.specs.Slot.{BoardSlot, SlotState, state_of}
 use Rattle.board.specs.World.{MayGiveBy, MayGiveOverImage, SlotStep, Step, World}
 use Rattle.board.proofs.Alone.{alone, get_set, slot_step}
-use Rattle.board.proofs.SavedDevices.{like_models, windows_back}
-use Rattle.board.proofs.Saving.{as_saved}
+use Rattle.board.proofs.SavedDevices.{devices_back, like_made}
+use Rattle.board.proofs.Saving.{Said, as_saved, said_in, said_of}
 use Rattle.board.proofs.Steps.{answers_join}
 
 -- ---- a restore that is done was taken up
@@ -68,13 +67,13 @@ done_by {A} (Some disk) state bytes before after outcome given done =
 
 -- a slot of this description
 like_saved : (saved other : BoardSlot) → SuitsBesideDevices (saved_slot saved) other → other.memory ≡ saved.memory
-    → AreOfModels saved.devices other.devices → IsLike saved other
+    → AreMadeAlike saved.devices other.devices → IsLike saved other
 like_saved saved other suits memory devices = record {
   memory = rw memory (record { base = refl; size = refl; gaps = refl });
   sectors = sym suits.sectors;
   read_only = sym suits.read_only;
   identity = sym suits.identity;
-  devices = like_models saved.devices other.devices devices;
+  devices = like_made saved.devices other.devices devices;
   on_hold = suits.on_hold;
 }
 
@@ -95,12 +94,12 @@ as_left : (saved : BoardSlot) (bytes : List ℕ) (state new : SlotState) → Has
     → new ≡ state_of bytes saved
 as_left saved bytes state new has text taken =
     let read = taken.restored in
-    let same : (read.saved, read.pending) ≡ (saved_slot saved, saved.pending) =
-    snapshot_once _ _ _ _ _ read.read text.spelled in
+    let same : said_of read.saved read.pending read.waiting ≡ said_in saved =
+    snapshot_once _ _ _ _ _ _ _ read.read text.spelled in
     let suits : Suits (saved_slot saved) (slot_in state) =
-    subst (λ (x : SavedSlot × List ℕ). Suits x.0 (slot_in state)) same read.takes_up.suits in
+    subst (λ (x : Said). Suits x.0 (slot_in state)) same read.takes_up.suits in
     let is : IsAs saved (slot_in state) (slot_in new) =
-    as_saved saved (slot_in state) (slot_in new) (snapshot_of saved) (read.saved, read.pending) text
+    as_saved saved (slot_in state) (slot_in new) (snapshot_of saved) (said_of read.saved read.pending read.waiting) text
     (like_saved saved (slot_in state) suits.beside has.memory has.devices) same read.takes_up in
     ap (λ (slot : BoardSlot). seen_in new.extent new.spare_bytes slot) is
     ∙ rw (
@@ -111,7 +110,7 @@ as_left saved bytes state new has text taken =
       has.spare,
       has.spare_bytes,
       host_back saved.host state.host has.host,
-      windows_back saved.devices state.devices has.devices,
+      devices_back saved.devices state.devices has.devices,
     ) refl
 
 -- the front of the buffer is the snapshot

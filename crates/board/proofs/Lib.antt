@@ -58,6 +58,7 @@ pub mod Lasting
 pub mod Reading
 pub mod SameRange
 pub mod SavedDevices
+pub mod TakenUp
 pub mod Untouched
 pub mod UntouchedSteps
 pub mod OnePiece

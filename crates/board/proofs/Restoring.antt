@@ -9,9 +9,10 @@ use Rattle.snapshot.proofs.First.{first_fault_once}
 use Rattle.snapshot.proofs.OfSlot.{snapshot_once}
 use Rattle.board.specs.declared.event.EventKind.TheVariants.{Restore}
 use Rattle.device_list.specs.List.{are_at_work}
+use Rattle.device_list.specs.Saved.{devices_restored}
 use Rattle.board.specs.declared.reply.Reply.TheVariants.{BadState, Busy}
 use Rattle.board.specs.declared.saved.RestoreFault.{RestoreFault}
-use Rattle.board.specs.declared.saved.RestoreFault.TheVariants.{Snapshot, OtherSlot, BadDevice, BadBlock, BadConsole, BadDeviceWindow}
+use Rattle.board.specs.declared.saved.RestoreFault.TheVariants.{Snapshot, OtherSlot, BadDevice, BadBlock, BadConsole, BadDeviceWindow, BadWaiting}
 use Rattle.board.specs.Image.{Health, sectors_of}
 use Rattle.board.specs.Outcome.{Outcome, does, replies}
 use Rattle.hosted_disk.specs.Disk.{HostedDisk}
@@ -20,13 +21,14 @@ use Rattle.board.specs.Restoring.{IsRestoring, IsTakenUp, RestoresUnless, slot_i
 use Rattle.board.specs.Saved.{IsCauseOf, IsPrevented, IsRestored, Prevents, Suits, SuitsBesideDevices, TakesUp}
 use Rattle.board.specs.Slot.{BoardSlot, SlotState, state_of, spare_start}
 use Rattle.board.specs.World.{MayGiveOverImage}
-use Rattle.board.proofs.Saving.{none_some, same_value}
+use Rattle.board.proofs.SavedDevices.{no_windows}
+use Rattle.board.proofs.Saving.{Said, none_some, said_of, same_value}
 
 -- ---- there is at most one outcome
 
-takes_once : (old : BoardSlot) (saved : SavedSlot) (pending : List ℕ) (one other : BoardSlot)
-    → TakesUp old saved pending one → TakesUp old saved pending other → one ≡ other
-takes_once old saved pending one other a b =
+takes_once : (old : BoardSlot) (said : Said) (one other : BoardSlot) → TakesUp old said.0 said.1 said.2 one
+    → TakesUp old said.0 said.1 said.2 other → one ≡ other
+takes_once old said one other a b =
     let block : one.block ≡ other.block = same_value _ _ _ a.block b.block in
     let console : one.console ≡ other.console = same_value _ _ _ a.console b.console in
     let devices : one.devices ≡ other.devices = same_value _ _ _ a.devices b.devices in
@@ -35,31 +37,34 @@ takes_once old saved pending one other a b =
 slot_once : (old : BoardSlot) (bytes : List ℕ) (one other : BoardSlot) → IsRestored old bytes one
     → IsRestored old bytes other → one ≡ other
 slot_once old bytes one other a b =
-    let same : (a.saved, a.pending) ≡ (b.saved, b.pending) = snapshot_once _ _ _ _ _ a.read b.read in
-    takes_once old b.saved b.pending one other (subst (λ (x : SavedSlot × List ℕ). TakesUp old x.0 x.1 one)
-    same a.takes_up) b.takes_up
+    let same : said_of a.saved a.pending a.waiting ≡ said_of b.saved b.pending b.waiting =
+    snapshot_once _ _ _ _ _ _ _ a.read b.read in
+    takes_once old (said_of b.saved b.pending b.waiting) one other
+    (subst (λ (x : Said). TakesUp old x.0 x.1 x.2 one) same a.takes_up) b.takes_up
 
 -- what prevents it doesn't leave a slot that took it up
-not_both : (old : BoardSlot) (saved : SavedSlot) (pending : List ℕ) (new : BoardSlot) (why : RestoreFault)
-    → TakesUp old saved pending new → Prevents old saved why → ⊥
-not_both old saved pending new (Snapshot fault) takes prevents = prevents
-not_both old saved pending new OtherSlot takes prevents = prevents takes.suits.beside
-not_both old saved pending new BadDevice takes prevents = prevents.1 takes.suits.devices
-not_both old saved pending new BadBlock takes prevents = none_some _ _ prevents.1 takes.block
-not_both old saved pending new BadConsole takes prevents = none_some _ _ prevents.1.1 takes.console
-not_both old saved pending new BadDeviceWindow takes prevents = none_some _ _ prevents.1.1.1 takes.devices
+not_both : (old : BoardSlot) (said : Said) (new : BoardSlot) (why : RestoreFault)
+    → TakesUp old said.0 said.1 said.2 new → Prevents old said.0 said.2 why → ⊥
+not_both old said new (Snapshot fault) takes prevents = prevents
+not_both old said new OtherSlot takes prevents = prevents takes.suits.beside
+not_both old said new BadDevice takes prevents = prevents.1 takes.suits.devices
+not_both old said new BadBlock takes prevents = none_some _ _ prevents.1 takes.block
+not_both old said new BadConsole takes prevents = none_some _ _ prevents.1.1 takes.console
+not_both old said new BadDeviceWindow takes prevents =
+    no_windows (devices_restored old.memory said.0.devices.items old.devices) said.2 new.devices prevents.1.1.1 takes.devices
+not_both old said new BadWaiting takes prevents = none_some _ _ prevents.1.1.1.1 takes.devices
 
 not_prevented_too : (old : BoardSlot) (bytes : List ℕ) (new : BoardSlot) (why : RestoreFault)
     → IsRestored old bytes new → IsPrevented old bytes why → ⊥
 not_prevented_too old bytes new why is cause =
-    let same : (is.saved, is.pending) ≡ (cause.saved, cause.pending) =
-    snapshot_once _ _ _ _ _ is.read cause.read in
-    not_both old cause.saved cause.pending new why
-    (subst (λ (x : SavedSlot × List ℕ). TakesUp old x.0 x.1 new) same is.takes_up) cause.prevents
+    let same : said_of is.saved is.pending is.waiting ≡ said_of cause.saved cause.pending cause.waiting =
+    snapshot_once _ _ _ _ _ _ _ is.read cause.read in
+    not_both old (said_of cause.saved cause.pending cause.waiting) new why
+    (subst (λ (x : Said). TakesUp old x.0 x.1 x.2 new) same is.takes_up) cause.prevents
 
 no_cause : (old : BoardSlot) (bytes : List ℕ) (new : BoardSlot) (why : RestoreFault)
     → IsRestored old bytes new → IsCauseOf old bytes why → ⊥
-no_cause old bytes new (Snapshot fault) is cause = cause.none is.saved is.pending is.read
+no_cause old bytes new (Snapshot fault) is cause = cause.none is.saved is.pending is.waiting is.read
 no_cause old bytes new why is cause = not_prevented_too old bytes new why is cause
 
 -- ---- and one cause of a refusal
@@ -68,44 +73,48 @@ some_none : {A : Type 0} (r : Option A) → r ≡ None → IsSome r → ⊥
 some_none None e h = absurd cc
 some_none (Some x) e h = absurd cc
 
-prevents_once : (slot : BoardSlot) (saved : SavedSlot) (one other : RestoreFault)
-    → Prevents slot saved one → Prevents slot saved other → one ≡ other
-prevents_once slot saved (Snapshot fault) other a b = absurd a
-prevents_once slot saved one (Snapshot fault) a b = absurd b
-prevents_once slot saved OtherSlot OtherSlot a b = refl
-prevents_once slot saved BadDevice BadDevice a b = refl
-prevents_once slot saved BadBlock BadBlock a b = refl
-prevents_once slot saved BadConsole BadConsole a b = refl
-prevents_once slot saved BadDeviceWindow BadDeviceWindow a b = refl
-prevents_once slot saved OtherSlot BadDevice a b = absurd (a b.0)
-prevents_once slot saved BadDevice OtherSlot a b = absurd (b a.0)
-prevents_once slot saved OtherSlot _ a b = absurd (a b.0.beside)
-prevents_once slot saved BadDevice _ a b = absurd (a.1 b.0.devices)
-prevents_once slot saved _ OtherSlot a b = absurd (b a.0.beside)
-prevents_once slot saved _ BadDevice a b = absurd (b.1 a.0.devices)
-prevents_once slot saved BadBlock _ a b = absurd (some_none _ a.1 b.1.0)
-prevents_once slot saved _ BadBlock a b = absurd (some_none _ b.1 a.1.0)
-prevents_once slot saved BadConsole BadDeviceWindow a b = absurd (some_none _ a.1.1 b.1.1.0)
-prevents_once slot saved BadDeviceWindow BadConsole a b = absurd (some_none _ b.1.1 a.1.1.0)
+prevents_once : (slot : BoardSlot) (saved : SavedSlot) (waiting : Option (List ℕ)) (one other : RestoreFault)
+    → Prevents slot saved waiting one → Prevents slot saved waiting other → one ≡ other
+prevents_once slot saved waiting (Snapshot fault) other a b = absurd a
+prevents_once slot saved waiting one (Snapshot fault) a b = absurd b
+prevents_once slot saved waiting OtherSlot OtherSlot a b = refl
+prevents_once slot saved waiting BadDevice BadDevice a b = refl
+prevents_once slot saved waiting BadBlock BadBlock a b = refl
+prevents_once slot saved waiting BadConsole BadConsole a b = refl
+prevents_once slot saved waiting BadDeviceWindow BadDeviceWindow a b = refl
+prevents_once slot saved waiting BadWaiting BadWaiting a b = refl
+prevents_once slot saved waiting OtherSlot BadDevice a b = absurd (a b.0)
+prevents_once slot saved waiting BadDevice OtherSlot a b = absurd (b a.0)
+prevents_once slot saved waiting OtherSlot _ a b = absurd (a b.0.beside)
+prevents_once slot saved waiting BadDevice _ a b = absurd (a.1 b.0.devices)
+prevents_once slot saved waiting _ OtherSlot a b = absurd (b a.0.beside)
+prevents_once slot saved waiting _ BadDevice a b = absurd (b.1 a.0.devices)
+prevents_once slot saved waiting BadBlock _ a b = absurd (some_none _ a.1 b.1.0)
+prevents_once slot saved waiting _ BadBlock a b = absurd (some_none _ b.1 a.1.0)
+prevents_once slot saved waiting BadConsole _ a b = absurd (some_none _ a.1.1 b.1.1.0)
+prevents_once slot saved waiting _ BadConsole a b = absurd (some_none _ b.1.1 a.1.1.0)
+prevents_once slot saved waiting BadDeviceWindow BadWaiting a b = absurd (some_none _ a.1.1.1 b.1.1.1.0)
+prevents_once slot saved waiting BadWaiting BadDeviceWindow a b = absurd (some_none _ b.1.1.1 a.1.1.1.0)
 
 prevented_once : (slot : BoardSlot) (bytes : List ℕ) (one other : RestoreFault)
     → IsPrevented slot bytes one → IsPrevented slot bytes other → one ≡ other
 prevented_once slot bytes one other a b =
-    let same : (a.saved, a.pending) ≡ (b.saved, b.pending) = snapshot_once _ _ _ _ _ a.read b.read in
-    prevents_once slot b.saved one other
-    (subst (λ (x : SavedSlot × List ℕ). Prevents slot x.0 one) same a.prevents) b.prevents
+    let same : said_of a.saved a.pending a.waiting ≡ said_of b.saved b.pending b.waiting =
+    snapshot_once _ _ _ _ _ _ _ a.read b.read in
+    prevents_once slot b.saved b.waiting one other
+    (subst (λ (x : Said). Prevents slot x.0 x.2 one) same a.prevents) b.prevents
 
 -- what was saved prevents it, where the bytes are a snapshot
-prevented : (slot : BoardSlot) (bytes : List ℕ) (saved : SavedSlot) (pending : List ℕ) (why : RestoreFault)
-    → IsSnapshot bytes saved pending → IsCauseOf slot bytes why → IsPrevented slot bytes why
-prevented slot bytes saved pending (Snapshot fault) is cause = absurd (cause.none saved pending is)
-prevented slot bytes saved pending _ is cause = cause
+prevented : (slot : BoardSlot) (bytes : List ℕ) (saved : SavedSlot) (pending : List ℕ) (waiting : Option (List ℕ))
+    (why : RestoreFault) → IsSnapshot bytes saved pending waiting → IsCauseOf slot bytes why → IsPrevented slot bytes why
+prevented slot bytes saved pending waiting (Snapshot fault) is cause = absurd (cause.none saved pending waiting is)
+prevented slot bytes saved pending waiting _ is cause = cause
 
 -- where the one cause is what was saved, so is the other
 behind_prevented : (slot : BoardSlot) (bytes : List ℕ) (one other : RestoreFault)
     → IsPrevented slot bytes one → IsCauseOf slot bytes other → one ≡ other
 behind_prevented slot bytes one other a cause =
-    prevented_once slot bytes one other a (prevented slot bytes a.saved a.pending other a.read cause)
+    prevented_once slot bytes one other a (prevented slot bytes a.saved a.pending a.waiting other a.read cause)
 
 pub cause_once : (slot : BoardSlot) (bytes : List ℕ) (one other : RestoreFault)
     → IsCauseOf slot bytes one → IsCauseOf slot bytes other → one ≡ other
@@ -208,6 +217,7 @@ taken_in image slot new bytes counted h = record {
   restored = record {
     saved = h.saved;
     pending = h.pending;
+    waiting = h.waiting;
     read = h.read;
     takes_up = record {
       suits = suits_in image slot h.saved counted h.takes_up.suits;
@@ -221,22 +231,25 @@ taken_in image slot new bytes counted h = record {
   spare = ap (λ (s : BoardSlot). extent_of image (spare_start s) s.spare) h.takes_up.is;
 }
 
-prevents_in : (image : List ℕ) (slot : BoardSlot) (saved : SavedSlot) (why : RestoreFault)
-    → IsCounted image slot → Prevents slot saved why → Prevents (slot_in (state_of image slot)) saved why
-prevents_in image slot saved (Snapshot fault) counted h = h
-prevents_in image slot saved OtherSlot counted h = λ suits. h (beside_out image slot saved counted suits)
-prevents_in image slot saved BadDevice counted h = (beside_in image slot saved counted h.0, h.1)
-prevents_in image slot saved BadBlock counted h = (suits_in image slot saved counted h.0, h.1)
-prevents_in image slot saved BadConsole counted h = (suits_in image slot saved counted h.0, h.1)
-prevents_in image slot saved BadDeviceWindow counted h = (suits_in image slot saved counted h.0, h.1)
+prevents_in : (image : List ℕ) (slot : BoardSlot) (saved : SavedSlot) (waiting : Option (List ℕ)) (why : RestoreFault)
+    → IsCounted image slot → Prevents slot saved waiting why
+    → Prevents (slot_in (state_of image slot)) saved waiting why
+prevents_in image slot saved waiting (Snapshot fault) counted h = h
+prevents_in image slot saved waiting OtherSlot counted h = λ suits. h (beside_out image slot saved counted suits)
+prevents_in image slot saved waiting BadDevice counted h = (beside_in image slot saved counted h.0, h.1)
+prevents_in image slot saved waiting BadBlock counted h = (suits_in image slot saved counted h.0, h.1)
+prevents_in image slot saved waiting BadConsole counted h = (suits_in image slot saved counted h.0, h.1)
+prevents_in image slot saved waiting BadDeviceWindow counted h = (suits_in image slot saved counted h.0, h.1)
+prevents_in image slot saved waiting BadWaiting counted h = (suits_in image slot saved counted h.0, h.1)
 
 prevented_in : (image : List ℕ) (slot : BoardSlot) (bytes : List ℕ) (why : RestoreFault) → IsCounted image slot
     → IsPrevented slot bytes why → IsPrevented (slot_in (state_of image slot)) bytes why
 prevented_in image slot bytes why counted h = record {
   saved = h.saved;
   pending = h.pending;
+  waiting = h.waiting;
   read = h.read;
-  prevents = prevents_in image slot h.saved why counted h.prevents;
+  prevents = prevents_in image slot h.saved h.waiting why counted h.prevents;
 }
 
 cause_in : (image : List ℕ) (slot : BoardSlot) (bytes : List ℕ) (why : RestoreFault) → IsCounted image slot

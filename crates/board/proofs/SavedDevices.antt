@@ -1,4 +1,4 @@
--- Further devices take up what is saved of others of their description: each then has the other's window.
+-- Further devices take up what is saved of others of their description: each then has the other's window, and what waited in it.
 use Rattle.std.proofs.Common.{◌≡◌, ◌∙◌, ℕ, zero, suc, ◌<◌, ◌≤◌, List, [], ◌∷◌, Option, Some, None, length, refl, sym, ap, subst, arith}
 use Rattle.std.specs.Prelude.{All, slice_set}
 use Rattle.std.specs.List.{AllZip, slice_get}
@@ -12,9 +12,11 @@ use Rattle.mmio_window.specs.Window.{WindowState}
 use Rattle.snapshot.specs.declared.saved.SavedDevice.{SavedDevice}
 use Rattle.device_list.specs.Device.{DeviceState, IsSoundDevice}
 use Rattle.device_list.specs.List.{AreSoundDevices}
-use Rattle.device_list.specs.Model.{ModelState, features_of, kind_of}
-use Rattle.device_list.specs.Saved.{AreOfModels, RestoresEach, SuitDevices, SuitsDevice, device_window_restored, devices_restored, first_restored, identity_of, mac_of, mtu_of, saved_device, saved_devices, sectors_of, with_window}
-use Rattle.board.specs.Saved.{IsLikeDevice, IsOffering, with_windows_of}
+use Rattle.device_list.specs.Model.{ModelState, kind_of}
+use Rattle.device_list.specs.Saved.{RestoresEach, SuitDevices, SuitsDevice, device_window_restored, devices_restored, first_restored, identity_of, mac_of, mtu_of, saved_device, saved_devices, sectors_of, with_window}
+use Rattle.device_list.specs.Waiting.{AreMadeAlike, AreOfTypes, emptied, refilled_devices, waiting_of}
+use Rattle.device_list.proofs.Refilling.{alike, refilled_is}
+use Rattle.board.specs.Saved.{IsLikeDevice, IsOffering, IsTakenAgain, as_devices, devices_taken_up, with_windows_of}
 use Rattle.board.proofs.SameRange.{window_over}
 
 -- ---- they suit
@@ -112,34 +114,58 @@ windows_are m ds es each like =
     first_is m ds es (length (saved_devices ds)) like each (omega arith)
     ∙ ap (λ (l : List DeviceState). Some l) (all_mixed ds es like)
 
--- ---- where the same waits in them, they are then the others
+-- ---- and what waited in it
 
-pub like_models : (ds es : List DeviceState) → AreOfModels ds es → AllZip IsLikeDevice ds es
-like_models [] [] same = tt
-like_models [] (e ∷ es) same = absurd same
-like_models (d ∷ ds) [] same = absurd same
-like_models (d ∷ ds) (e ∷ es) same = (
-  record {
-    kind = ap kind_of (sym same.0);
-    mac = ap mac_of (sym same.0);
-    mtu = ap mtu_of (sym same.0);
-    sectors = ap sectors_of (sym same.0);
-    identity = ap identity_of (sym same.0);
-    features = ap features_of (sym same.0);
-  },
-  like_models ds es same.1,
-)
+like_types : (ds es : List DeviceState) → AllZip IsLikeDevice ds es → AreOfTypes ds (with_windows_of ds es)
+like_types [] [] like = tt
+like_types [] (e ∷ es) like = absurd like
+like_types (d ∷ ds) [] like = absurd like
+like_types (d ∷ ds) (e ∷ es) like = (sym like.0.kind, like_types ds es like.1)
+
+pub devices_are : (m : Memory) (ds es : List DeviceState) → RestoresEach m ds → IsTakenAgain ds
+    → AllZip IsLikeDevice ds es
+    → devices_taken_up m (saved_devices ds) (waiting_of ds) es ≡ Some (as_devices ds es)
+devices_are m ds es each again like =
+    ap (λ (found : Option (List DeviceState)). option_and_then (refilled_devices (waiting_of ds)) found)
+    (windows_are m ds es each like)
+    ∙ again (with_windows_of ds es) (like_types ds es like)
+
+-- without their windows they aren't taken up
+pub no_windows : (found : Option (List DeviceState)) (waiting : Option (List ℕ)) (new : List DeviceState)
+    → found ≡ None → option_and_then (refilled_devices waiting) found ≡ Some new → ⊥
+no_windows None waiting new none is = absurd (cc is)
+no_windows (Some mid) waiting new none is = absurd (cc none)
+
+-- ---- where both were made alike, they are then the first
+
+made_like : (d e : DeviceState) → emptied d.model ≡ emptied e.model → IsLikeDevice d e
+made_like d e is =
+    let same = alike d.model e.model is in record {
+      kind = sym same.kind;
+      mac = sym same.mac;
+      mtu = sym same.mtu;
+      sectors = sym same.sectors;
+      identity = sym same.identity;
+      features = sym same.features;
+    }
+
+pub like_made : (ds es : List DeviceState) → AreMadeAlike ds es → AllZip IsLikeDevice ds es
+like_made [] [] alike = tt
+like_made [] (e ∷ es) alike = absurd alike
+like_made (d ∷ ds) [] alike = absurd alike
+like_made (d ∷ ds) (e ∷ es) alike = (made_like d e alike.0, like_made ds es alike.1)
 
 abbrev device_of : WindowState → ModelState → DeviceState
 device_of window model = record { window = window; model = model }
 
-pub windows_back : (ds es : List DeviceState) → AreOfModels ds es → with_windows_of ds es ≡ ds
-windows_back [] [] same = refl
-windows_back [] (e ∷ es) same = absurd same
-windows_back (d ∷ ds) [] same = absurd same
-windows_back (d ∷ ds) (e ∷ es) same =
-    ap (λ (model : ModelState). device_of d.window model ∷ with_windows_of ds es) (sym same.0)
-    ∙ ap (λ (l : List DeviceState). d ∷ l) (windows_back ds es same.1)
+pub devices_back : (ds es : List DeviceState) → AreMadeAlike ds es → as_devices ds es ≡ ds
+devices_back [] [] alike = refl
+devices_back [] (e ∷ es) alike = absurd alike
+devices_back (d ∷ ds) [] alike = absurd alike
+devices_back (d ∷ ds) (e ∷ es) alike =
+    ap (λ (model : ModelState). device_of d.window model ∷ as_devices ds es)
+    (refilled_is d.model e.model alike.0)
+    ∙ ap (λ (l : List DeviceState). d ∷ l) (devices_back ds es alike.1)
 
 -- ---- over another memory of the same range
 
@@ -172,3 +198,9 @@ first_over m n (suc count) saved devices same =
 pub devices_over : (m n : Memory) (saved : List SavedDevice) (devices : List DeviceState) → SameRange m n
     → devices_restored n saved devices ≡ devices_restored m saved devices
 devices_over m n saved devices same = first_over m n (length saved) saved devices same
+
+pub taken_up_over : (m n : Memory) (saved : List SavedDevice) (waiting : Option (List ℕ)) (devices : List DeviceState)
+    → SameRange m n → devices_taken_up n saved waiting devices ≡ devices_taken_up m saved waiting devices
+taken_up_over m n saved waiting devices same =
+    ap (λ (found : Option (List DeviceState)). option_and_then (refilled_devices waiting) found)
+    (devices_over m n saved devices same)

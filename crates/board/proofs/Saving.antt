@@ -1,7 +1,8 @@
 -- A slot takes up the snapshot of every slot of its description.
-use Rattle.std.proofs.Common.{◌≡◌, ◌∙◌, ◌↔◌, ◌<◌, ℕ, List, Option, Some, None, Result, Ok, Err, refl, sym, ap, subst, arith, drop, inl, inr, length}
-use Rattle.std.proofs.lemmas.Bool.{cases_lt}
-use Rattle.std.specs.Prelude.{◌++◌, ◌==◌, IfErr, IfOk, IsErr, IsOk, OnOk, if◌then◌else◌}
+use Rattle.std.proofs.Common.{◌≡◌, ◌∙◌, ◌+◌, ◌-◌, ◌<◌, ◌≤◌, ℕ, List, [], ◌∷◌, Option, Some, None, Result, Ok, Err, inl, inr, ltb, refl, sym, ap, subst, append_assoc, arith, drop, length, length-append, take}
+use Rattle.std.proofs.lemmas.Bool.{cases_lt, lt-ltb}
+use Rattle.std.proofs.lemmas.List.{append-nil, drop-append-le, drop-drop, drop_at, length-take-le, take-append-drop, take_at}
+use Rattle.std.specs.Prelude.{◌++◌, ◌==◌, false, true, IfErr, IfOk, IfSome, IsOk, OnOk, if◌then◌else◌}
 use Rattle.guest_memory.specs.Memory.{Memory}
 use Rattle.mmio_window.specs.declared.device_kind.DeviceKind.{DeviceKind}
 use Rattle.mmio_window.specs.declared.device_kind.DeviceKind.TheVariants.{Block, Console}
@@ -12,19 +13,34 @@ use Rattle.mmio_window.proofs.Soundness.{IsSound-same_range}
 use Rattle.snapshot.specs.declared.fault.SnapshotFault.{SnapshotFault}
 use Rattle.snapshot.specs.declared.saved.SavedSlot.{SavedSlot}
 use Rattle.snapshot.specs.Faults.{IsFirstFault}
-use Rattle.snapshot.specs.Spelling.{IsSnapshot, snapshot}
+use Rattle.snapshot.specs.Spelling.{IsSnapshot, WaitingFits, front_of, snapshot}
 use Rattle.snapshot.proofs.OfSlot.{snapshot_once}
 use Rattle.device_list.proofs.Sound.{still_sound}
 use Rattle.device_list.specs.List.{AreSoundDevices}
-use Rattle.device_list.specs.Saved.{RestoresEach, devices_restored, saved_devices}
-use Rattle.snapshot.specs.declared.saved.SavedDevice.{SavedDevice}
+use Rattle.device_list.specs.Device.{DeviceState}
+use Rattle.device_list.specs.Saved.{RestoresEach, saved_devices}
+use Rattle.device_list.specs.Waiting.{each_waiting, waiting_of}
 use Rattle.board.specs.declared.saved.RestoreFault.{RestoreFault}
-use Rattle.board.specs.declared.saved.RestoreFault.TheVariants.{Snapshot, OtherSlot, BadDevice, BadBlock, BadConsole, BadDeviceWindow}
+use Rattle.board.specs.declared.saved.RestoreFault.TheVariants.{Snapshot, OtherSlot, BadDevice, BadBlock, BadConsole, BadDeviceWindow, BadWaiting}
 use Rattle.board.specs.Backing.{is_held}
-use Rattle.board.specs.Saved.{IsAs, IsCauseOf, IsLike, IsRestored, IsSavedTo, IsSnapshotOf, OffersFeatures, Prevents, RestoresIt, SuitsBesideDevices, TakesUp, block_restored, console_restored, saved_slot, snapshot_of, with_windows_of}
+use Rattle.board.specs.Saved.{IsAs, IsCauseOf, IsLike, IsRestored, IsSavedTo, IsSnapshotOf, IsTakenAgain, OffersFeatures, Prevents, RestoresIt, SuitsBesideDevices, TakesUp, as_devices, block_restored, console_restored, devices_taken_up, saved_slot, snapshot_of}
 use Rattle.block_device.specs.Config.{block_features}
 use Rattle.board.specs.Slot.{BoardSlot, IsSoundSlot}
-use Rattle.board.proofs.SavedDevices.{offering, suit_each, windows_are}
+use Rattle.board.proofs.SavedDevices.{devices_are, offering, suit_each, windows_are}
+
+pub never_true : false ≡ true → ⊥
+never_true is = absurd (cc is)
+
+-- what a snapshot says: the slot, its pending input, and what waits in its further devices
+abbrev pub Said : Type 0
+Said = SavedSlot × List ℕ × Option (List ℕ)
+
+abbrev pub said_of : SavedSlot → List ℕ → Option (List ℕ) → Said
+said_of saved pending waiting = (saved, pending, waiting)
+
+-- what that of a slot says
+abbrev pub said_in : BoardSlot → Said
+said_in slot = said_of (saved_slot slot) slot.pending (waiting_of slot.devices)
 
 -- ---- what is saved
 
@@ -60,59 +76,110 @@ is_snapshot : (slot : BoardSlot) (bytes : List ℕ)
     → window_restored slot.block.kind m (saved_window slot.block) ≡ Some slot.block)
     → ((m : Memory) → IsSound m slot.console → window_restored slot.console.kind m (saved_window slot.console)
     ≡ Some slot.console)
-    → ((m : Memory) → AreSoundDevices m slot.devices → RestoresEach m slot.devices)
-    → IsSnapshot bytes (saved_slot slot) slot.pending → IsSnapshotOf bytes slot
-is_snapshot slot bytes sound block console devices spelled = record {
+    → ((m : Memory) → AreSoundDevices m slot.devices → RestoresEach m slot.devices) → IsTakenAgain slot.devices
+    → IsSnapshot bytes (saved_slot slot) slot.pending (waiting_of slot.devices) → IsSnapshotOf bytes slot
+is_snapshot slot bytes sound block console devices waiting spelled = record {
   spelled = spelled;
   offers = offers_them slot sound;
   block = block_it slot.memory slot.block sound.block_generation
       (restores_it Block slot.memory slot.block sound.block_sound sound.block_kind block);
   console = restores_it Console slot.memory slot.console sound.console_sound sound.console_kind console;
   devices = λ m same. devices m (still_sound slot.memory m slot.devices same sound.devices_sound);
+  waiting = waiting;
 }
 
--- what was written of it
-pub saved_as : {V E : Type 0} (items : V → List ℕ) (result : Result V E) (slot : BoardSlot)
-    (saved : SavedSlot) (front back : List ℕ)
-    → IsSoundSlot slot.memory slot.read_only slot.block slot.console slot.pending slot.devices → saved ≡ saved_slot slot
-    → front ++ back ≡ slot.pending
-    → ((m : Memory) → IsSound m slot.block → window_restored slot.block.kind m saved.block ≡ Some slot.block)
-    → ((m : Memory) → IsSound m slot.console → window_restored slot.console.kind m saved.console
-    ≡ Some slot.console)
-    → ((m : Memory) → AreSoundDevices m slot.devices → RestoresEach m slot.devices)
-    → IfOk result (λ v. IsSnapshot (items v) saved (front ++ back))
-    → IfOk result (λ v. IsSnapshotOf (items v) slot)
-saved_as items (Ok v) slot saved front back sound is pending block console devices text =
-    is_snapshot slot (items v) sound (rw is at block) (rw is at console) devices (rw (is, pending) at text)
-saved_as items (Err why) slot saved front back sound is pending block console devices text = tt
+-- behind its front stands what waits in the further devices, if there are any
+behind_front : (saved : SavedSlot) (pending : List ℕ) (devices : List DeviceState)
+    → front_of saved pending (ltb 0 (length devices)) ++ each_waiting devices
+    ≡ snapshot saved pending (waiting_of devices)
+behind_front saved pending [] = append-nil (front_of saved pending false)
+behind_front saved pending (d ∷ ds) = rw (lt-ltb 0 (length (d ∷ ds)) (omega arith)) refl
 
--- the same in a buffer
-pub saved_to_as : {E : Type 0} (result : Result ℕ E) (slot : BoardSlot) (saved : SavedSlot)
-    (front back old new : List ℕ)
+-- only in further devices something waits
+waits_there : (slot : BoardSlot) → WaitingFits (saved_slot slot) (waiting_of slot.devices)
+waits_there slot = by_devices slot.devices
+  where
+    by_devices : (devices : List DeviceState)
+        → IfSome (waiting_of devices) (λ bytes. 1 ≤ length (saved_devices devices))
+    by_devices [] = tt
+    by_devices (d ∷ ds) = omega arith
+
+-- so many bytes has the snapshot
+pub saved_len : (slot : BoardSlot) (saved : SavedSlot) (pending : List ℕ) (further len count : ℕ)
+    → saved ≡ saved_slot slot → pending ≡ slot.pending → further ≡ length slot.devices
+    → len ≡ length (front_of saved pending (ltb 0 further)) → count ≡ length (each_waiting slot.devices)
+    → len + count ≡ length (snapshot_of slot)
+saved_len slot saved pending further len count is pending_is further_is len_is count_is =
+    rw (len_is, count_is, is, pending_is, further_is)
+    (sym (ap (λ (bytes : List ℕ). length bytes) (sym (behind_front (saved_slot slot) slot.pending slot.devices))
+    ∙ length-append (front_of (saved_slot slot) slot.pending (ltb 0 (length slot.devices))) (each_waiting slot.devices)))
+
+-- what is put at the front of a part of a buffer, and what is put behind that
+both_put : (front behind old : List ℕ) (room : ℕ) → length front ≤ room → room + length behind ≡ length old
+    → take (length front) ((front ++ drop (length front) (take room old)) ++ drop room old)
+    ++ (behind ++ drop (length behind) (drop (length front) ((front ++ drop (length front) (take room old)) ++ drop room old)))
+    ≡ (front ++ behind) ++ drop (length front + length behind) old
+both_put front behind old room fits all =
+    let len : length (take room old) ≡ room = length-take-le room old (omega (arith, all)) in
+    let rest : drop (length front) (take room old) ++ drop room old ≡ drop (length front) old =
+    sym (drop-append-le (length front) (take room old) (drop room old) (omega (arith, len, fits)))
+    ∙ ap (drop (length front)) (take-append-drop room old) in
+    rw (
+      append_assoc front (drop (length front) (take room old)) (drop room old),
+      rest,
+      take_at front (drop (length front) old) (length front) refl,
+      drop_at front (drop (length front) old) (length front) refl,
+      drop-drop (length behind) (length front) old,
+      append_assoc front behind (drop (length front + length behind) old),
+    ) refl
+
+-- what is put into a buffer: the front into the part that what waits leaves free, and what waits behind the front
+pub saved_to : (slot : BoardSlot) (saved : SavedSlot) (pending old part put : List ℕ) (further len count behind : ℕ)
     → IsSoundSlot slot.memory slot.read_only slot.block slot.console slot.pending slot.devices → saved ≡ saved_slot slot
-    → front ++ back ≡ slot.pending
+    → pending ≡ slot.pending
     → ((m : Memory) → IsSound m slot.block → window_restored slot.block.kind m saved.block ≡ Some slot.block)
     → ((m : Memory) → IsSound m slot.console → window_restored slot.console.kind m saved.console
     ≡ Some slot.console)
-    → ((m : Memory) → AreSoundDevices m slot.devices → RestoresEach m slot.devices)
-    → IfOk result (λ len. len ≡ length (snapshot saved (front ++ back)))
-    → IfOk result (λ len. new ≡ snapshot saved (front ++ back) ++ drop len old)
-    → (IsErr result ↔ (length old < length (snapshot saved (front ++ back))))
-    → IsSnapshot (snapshot saved (front ++ back)) saved (front ++ back)
-    → IfOk result (IsSavedTo slot old new)
-saved_to_as (Ok len) slot saved front back old new sound is pending block console devices counted text short whole =
+    → ((m : Memory) → AreSoundDevices m slot.devices → RestoresEach m slot.devices) → IsTakenAgain slot.devices
+    → ((waiting : Option (List ℕ)) → WaitingFits saved waiting
+    → IsSnapshot (snapshot saved pending waiting) saved pending waiting)
+    → further ≡ length slot.devices → len ≡ length (front_of saved pending (ltb 0 further))
+    → count ≡ length (each_waiting slot.devices) → count ≤ length old → len ≤ length old - count → behind ≡ count
+    → part ≡ front_of saved pending (ltb 0 further) ++ drop len (take (length old - count) old)
+    → put ≡ each_waiting slot.devices
+    → IsSavedTo slot old
+    (take len (part ++ drop (length old - count) old)
+    ++ (put ++ drop behind (drop len (part ++ drop (length old - count) old)))) (len + count)
+saved_to slot saved pending old part put further len count behind sound is pending_is block console devices again whole further_is len_is count_is room fits behind_is part_is put_is =
+    let front = front_of saved pending (ltb 0 further) in
+    let waiting = each_waiting slot.devices in
+    let of_slot : IsSnapshot (snapshot_of slot) (saved_slot slot) slot.pending (waiting_of slot.devices) =
+    rw (is, pending_is) at (whole (waiting_of slot.devices) (rw is (waits_there slot))) in
+    let behind_it : front ++ waiting ≡ snapshot saved pending (waiting_of slot.devices) =
+    rw further_is (behind_front saved pending slot.devices) in
+    let same : snapshot saved pending (waiting_of slot.devices) ≡ snapshot_of slot = rw (is, pending_is) refl in
+    let spelled : front ++ waiting ≡ snapshot_of slot = behind_it ∙ same in
+    let both : take len (part ++ drop (length old - count) old)
+    ++ (put ++ drop behind (drop len (part ++ drop (length old - count) old)))
+    ≡ (front ++ waiting) ++ drop (len + count) old =
+    rw (behind_is, part_is, put_is, len_is, count_is)
+    (both_put front waiting old (length old - length waiting) (omega (arith, fits, len_is, count_is))
+    (omega (arith, room, count_is))) in
     record {
-      snapshot = is_snapshot slot (snapshot_of slot) sound (rw is at block) (rw is at console) devices
-          (rw (is, pending) at whole);
-      len_is = rw (is, pending) at counted;
-      room = elim (cases_lt (length old) (length (snapshot saved (front ++ back)))) [
-        | inl less ↦ (let never = short.1 less in absurd cc)
-        | inr enough ↦ omega (arith, counted, enough)
-      ];
-      text = rw (is, pending) at text;
+      snapshot = is_snapshot slot (snapshot_of slot) sound (rw is at block) (rw is at console) devices again of_slot;
+      len_is = rw (len_is, count_is, ← spelled) (sym (length-append front waiting));
+      room = omega (arith, room, fits);
+      text = both ∙ ap (λ (text : List ℕ). text ++ drop (len + count) old) spelled;
     }
-saved_to_as (Err why) slot saved front back old new sound is pending block console devices counted text short whole =
-    tt
+
+-- a front that isn't refused fits
+pub front_fits : (old front : List ℕ) (len count : ℕ) → count ≤ length old → len ≡ length front
+    → ((length (take (length old - count) old) < length front) → false ≡ true) → len ≤ length old - count
+front_fits old front len count room len_is short =
+    elim (cases_lt (length (take (length old - count) old)) (length front)) [
+      | inl less ↦ absurd (never_true (short less))
+      | inr enough ↦ omega (arith, enough, len_is, length-take-le (length old - count) old (omega arith))
+    ]
 
 -- ---- what takes it up
 
@@ -133,29 +200,26 @@ suits_it slot other bytes is like offers = record {
 }
 
 -- a slot that has taken it up is as the one that was saved
-pub as_saved : (slot old new : BoardSlot) (bytes : List ℕ) (saved : SavedSlot × List ℕ)
+pub as_saved : (slot old new : BoardSlot) (bytes : List ℕ) (said : Said)
     → IsSnapshotOf bytes slot → IsLike slot old
-    → saved ≡ (saved_slot slot, slot.pending) → TakesUp old saved.0 saved.1 new → IsAs slot old new
-as_saved slot old new bytes saved is like e takes =
-    let block_saved : saved.0.block ≡ saved_window slot.block =
-    ap (λ (x : SavedSlot × List ℕ). x.0.block) e in
-    let console_saved : saved.0.console ≡ saved_window slot.console =
-    ap (λ (x : SavedSlot × List ℕ). x.0.console) e in
-    let pending_saved : saved.1 ≡ slot.pending = ap (λ (x : SavedSlot × List ℕ). x.1) e in
-    let cols_saved : saved.0.cols ≡ slot.cols = ap (λ (x : SavedSlot × List ℕ). x.0.cols) e in
-    let rows_saved : saved.0.rows ≡ slot.rows = ap (λ (x : SavedSlot × List ℕ). x.0.rows) e in
-    let hold_saved : saved.0.on_hold ≡ is_held slot.host = ap (λ (x : SavedSlot × List ℕ). x.0.on_hold) e in
+    → said ≡ said_in slot → TakesUp old said.0 said.1 said.2 new → IsAs slot old new
+as_saved slot old new bytes said is like e takes =
+    let block_saved : said.0.block ≡ saved_window slot.block = ap (λ (x : Said). x.0.block) e in
+    let console_saved : said.0.console ≡ saved_window slot.console = ap (λ (x : Said). x.0.console) e in
+    let pending_saved : said.1 ≡ slot.pending = ap (λ (x : Said). x.1) e in
+    let cols_saved : said.0.cols ≡ slot.cols = ap (λ (x : Said). x.0.cols) e in
+    let rows_saved : said.0.rows ≡ slot.rows = ap (λ (x : Said). x.0.rows) e in
+    let hold_saved : said.0.on_hold ≡ is_held slot.host = ap (λ (x : Said). x.0.on_hold) e in
     let block : new.block ≡ slot.block
     = same_value _ _ _ (ap (block_restored old.memory) (sym block_saved)
     ∙ takes.block) (is.block old.memory like.memory) in
     let console : new.console ≡ slot.console
     = same_value _ _ _ (ap (console_restored old.memory) (sym console_saved)
     ∙ takes.console) (is.console old.memory like.memory) in
-    let devices_saved : saved.0.devices.items ≡ saved_devices slot.devices =
-    ap (λ (x : SavedSlot × List ℕ). x.0.devices.items) e in
-    let devices : new.devices ≡ with_windows_of slot.devices old.devices
-    = same_value _ _ _ (ap (λ (s : List SavedDevice). devices_restored old.memory s old.devices) (sym devices_saved)
-    ∙ takes.devices) (windows_are old.memory slot.devices old.devices (is.devices old.memory like.memory) like.devices) in
+    let devices : new.devices ≡ as_devices slot.devices old.devices
+    = same_value _ _ _ (ap (λ (x : Said). devices_taken_up old.memory x.0.devices.items x.2 old.devices) (sym e)
+    ∙ takes.devices)
+    (devices_are old.memory slot.devices old.devices (is.devices old.memory like.memory) is.waiting like.devices) in
     takes.is
     ∙ rw (
       block,
@@ -174,7 +238,7 @@ none_some r x a b = cc
 
 not_prevented : (slot old : BoardSlot) (bytes : List ℕ) (why : RestoreFault)
     → IsSnapshotOf bytes slot → IsLike slot old
-    → OffersFeatures old → Prevents old (saved_slot slot) why → ⊥
+    → OffersFeatures old → Prevents old (saved_slot slot) (waiting_of slot.devices) why → ⊥
 not_prevented slot old bytes (Snapshot fault) is like offers prevents = prevents
 not_prevented slot old bytes OtherSlot is like offers prevents =
     prevents (suits_it slot old bytes is like offers)
@@ -187,42 +251,47 @@ not_prevented slot old bytes BadConsole is like offers prevents =
 not_prevented slot old bytes BadDeviceWindow is like offers prevents =
     none_some _ _ prevents.1.1.1
     (windows_are old.memory slot.devices old.devices (is.devices old.memory like.memory) like.devices)
+not_prevented slot old bytes BadWaiting is like offers prevents =
+    none_some _ _ prevents.1.1.1.1
+    (devices_are old.memory slot.devices old.devices (is.devices old.memory like.memory) is.waiting like.devices)
 
 -- The outcome of taking up what was read, for the slot whose snapshot it is.
 pub taken_up : (slot old new : BoardSlot) (bytes : List ℕ) (saved : SavedSlot) (pending : List ℕ)
-    (result : Result (Unit {0}) RestoreFault)
+    (waiting : Option (List ℕ)) (result : Result (Unit {0}) RestoreFault)
     → IsSnapshotOf bytes slot → IsLike slot old → OffersFeatures old
-    → IsSnapshot bytes saved pending
-    → OnOk result (TakesUp old saved pending new) → IfErr result (Prevents old saved)
+    → IsSnapshot bytes saved pending waiting
+    → OnOk result (TakesUp old saved pending waiting new) → IfErr result (Prevents old saved waiting)
     → IsOk result × IsAs slot old new
-taken_up slot old new bytes saved pending (Ok done) is like offers read takes prevents =
-    (refl, as_saved slot old new bytes (saved, pending) is like (snapshot_once _ _ _ _ _ read is.spelled) takes)
-taken_up slot old new bytes saved pending (Err why) is like offers read takes prevents =
-    let same : (saved, pending) ≡ (saved_slot slot, slot.pending) =
-    snapshot_once _ _ _ _ _ read is.spelled in
+taken_up slot old new bytes saved pending waiting (Ok done) is like offers read takes prevents = (
+  refl,
+  as_saved slot old new bytes (said_of saved pending waiting) is like (snapshot_once _ _ _ _ _ _ _ read is.spelled) takes,
+)
+taken_up slot old new bytes saved pending waiting (Err why) is like offers read takes prevents =
+    let same : said_of saved pending waiting ≡ said_in slot = snapshot_once _ _ _ _ _ _ _ read is.spelled in
     absurd (not_prevented slot old bytes why is like offers
-    (subst (λ (x : SavedSlot × List ℕ). Prevents old x.0 why) same prevents))
+    (subst (λ (x : Said). Prevents old x.0 x.2 why) same prevents))
 
 -- what was taken up, of the bytes
 pub restored_of : (old new : BoardSlot) (bytes : List ℕ) (saved : SavedSlot) (pending : List ℕ)
-    (result : Result (Unit {0}) RestoreFault)
-    → IsSnapshot bytes saved pending → OnOk result (TakesUp old saved pending new)
+    (waiting : Option (List ℕ)) (result : Result (Unit {0}) RestoreFault)
+    → IsSnapshot bytes saved pending waiting → OnOk result (TakesUp old saved pending waiting new)
     → OnOk result (IsRestored old bytes new)
-restored_of old new bytes saved pending (Ok done) read takes =
-    record { saved = saved; pending = pending; read = read; takes_up = takes }
-restored_of old new bytes saved pending (Err why) read takes = tt
+restored_of old new bytes saved pending waiting (Ok done) read takes =
+    record { saved = saved; pending = pending; waiting = waiting; read = read; takes_up = takes }
+restored_of old new bytes saved pending waiting (Err why) read takes = tt
 
 -- and no snapshot of a slot is refused as none
 pub not_refused : (slot : BoardSlot) (bytes : List ℕ) (fault : SnapshotFault) → IsSnapshotOf bytes slot
     → IsFirstFault bytes fault → ⊥
-not_refused slot bytes fault is first = first.none (saved_slot slot) slot.pending is.spelled
+not_refused slot bytes fault is first =
+    first.none (saved_slot slot) slot.pending (waiting_of slot.devices) is.spelled
 
 -- why nothing was taken up, of the bytes
-pub cause_of : (old : BoardSlot) (bytes : List ℕ) (saved : SavedSlot) (pending : List ℕ)
+pub cause_of : (old : BoardSlot) (bytes : List ℕ) (saved : SavedSlot) (pending : List ℕ) (waiting : Option (List ℕ))
     (result : Result (Unit {0}) RestoreFault)
-    → IsSnapshot bytes saved pending → IfErr result (Prevents old saved)
+    → IsSnapshot bytes saved pending waiting → IfErr result (Prevents old saved waiting)
     → IfErr result (IsCauseOf old bytes)
-cause_of old bytes saved pending (Ok done) read prevents = tt
-cause_of old bytes saved pending (Err (Snapshot fault)) read prevents = absurd prevents
-cause_of old bytes saved pending _ read prevents =
-    record { saved = saved; pending = pending; read = read; prevents = prevents }
+cause_of old bytes saved pending waiting (Ok done) read prevents = tt
+cause_of old bytes saved pending waiting (Err (Snapshot fault)) read prevents = absurd prevents
+cause_of old bytes saved pending waiting _ read prevents =
+    record { saved = saved; pending = pending; waiting = waiting; read = read; prevents = prevents }

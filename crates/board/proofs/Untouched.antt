@@ -19,13 +19,15 @@ use Rattle.hosted_disk.specs.Told.{QueueTold, has_effect}
 use Rattle.board.specs.declared.reply.Reply.{Reply}
 use Rattle.board.specs.declared.reply.Reply.TheVariants.{Value, NoMemory, Idle}
 use Rattle.board.specs.declared.saved.RestoreFault.{RestoreFault}
-use Rattle.board.specs.declared.saved.RestoreFault.TheVariants.{Snapshot, OtherSlot, BadDevice, BadBlock, BadConsole, BadDeviceWindow}
+use Rattle.board.specs.declared.saved.RestoreFault.TheVariants.{Snapshot, OtherSlot, BadDevice, BadBlock, BadConsole, BadDeviceWindow, BadWaiting}
 use Rattle.board.specs.Hosting.{GivesOnHost, HostOrGives, OwnGives, ToldGives, is_block_task, notifies_block, told_in, waits_now}
 use Rattle.board.specs.Units.{DoesAsSaid, Own, unit_queue}
 use Rattle.board.specs.Image.{Health}
 use Rattle.board.specs.Machine.{Gives, GivesBy, GivesOverImage, register, resized, task_at, with_write}
 use Rattle.board.specs.Outcome.{IsDetermined, Outcome, does, replies}
+use Rattle.device_list.specs.Device.{DeviceState}
 use Rattle.device_list.specs.List.{are_at_work}
+use Rattle.device_list.specs.Saved.{devices_restored}
 use Rattle.board.specs.Restoring.{IsTakenUp, RestoresUnless, slot_in}
 use Rattle.board.specs.Saved.{IsCauseOf, IsPrevented, Prevents, Suits, SuitsBesideDevices, block_restored, console_restored, snapshot_of}
 use Rattle.board.specs.Slot.{BoardSlot, SlotState}
@@ -34,7 +36,7 @@ use Rattle.board.specs.Untouched.{NeedsNoMemory, outcome_over, over_memory, serv
 use Rattle.board.specs.World.{IsCutShort, IsRefused, MayGive, MayGiveBy, MayGiveOverImage}
 use Rattle.board.proofs.Beside.{same_range}
 use Rattle.board.proofs.SameRange.{block_over, window_over, written_over}
-use Rattle.board.proofs.SavedDevices.{devices_over}
+use Rattle.board.proofs.SavedDevices.{devices_over, taken_up_over}
 
 -- memory's bytes are left as they were, and over these others the outcome is There's
 abbrev Stays : {A : Type 0} → (Outcome A → Type 0) → Memory → Memory → Outcome A → Type 0
@@ -82,12 +84,13 @@ module _ (old : SlotState) (m : Memory) (same : SameRange old.memory m) where
         restored = record {
           saved = saved;
           pending = h.restored.pending;
+          waiting = h.restored.waiting;
           read = h.restored.read;
           takes_up = record {
             suits = suits_over old m same saved took.suits;
             block = block_over old.memory m saved.block same ∙ took.block;
             console = window_over kind.Console old.memory m saved.console same ∙ took.console;
-            devices = devices_over old.memory m saved.devices.items old.devices same ∙ took.devices;
+            devices = taken_up_over old.memory m saved.devices.items h.restored.waiting old.devices same ∙ took.devices;
             is = ap (λ (slot : BoardSlot). record slot { memory = m }) took.is;
           };
         };
@@ -105,21 +108,39 @@ module _ (old : SlotState) (m : Memory) (same : SameRange old.memory m) where
   has_console saved h =
       subst (λ (w : Option WindowState). IsSome w) (sym (window_over kind.Console old.memory m saved.console same)) h
 
-  prevents_over : (why : RestoreFault) (saved : SavedSlot) → Prevents (slot_in old) saved why
-      → Prevents (slot_in (over_memory m old)) saved why
-  prevents_over (Snapshot fault) saved h = h
-  prevents_over OtherSlot saved h =
+  has_windows : (saved : SavedSlot) → IsSome (devices_restored old.memory saved.devices.items old.devices)
+      → IsSome (devices_restored m saved.devices.items old.devices)
+  has_windows saved h =
+      subst (λ (l : Option (List DeviceState)). IsSome l) (sym (devices_over old.memory m saved.devices.items old.devices same)) h
+
+  prevents_over : (why : RestoreFault) (saved : SavedSlot) (waiting : Option (List ℕ))
+      → Prevents (slot_in old) saved waiting why → Prevents (slot_in (over_memory m old)) saved waiting why
+  prevents_over (Snapshot fault) saved waiting h = h
+  prevents_over OtherSlot saved waiting h =
       λ suits. h (beside_over (over_memory m old) old.memory (range_back old.memory m same) saved suits)
-  prevents_over BadDevice saved h = (beside_over old m same saved h.0, h.1)
-  prevents_over BadBlock saved h =
+  prevents_over BadDevice saved waiting h = (beside_over old m same saved h.0, h.1)
+  prevents_over BadBlock saved waiting h =
       (suits_over old m same saved h.0, block_over old.memory m saved.block same ∙ h.1)
-  prevents_over BadConsole saved h =
+  prevents_over BadConsole saved waiting h =
       (suits_over old m same saved h.0, (has_block saved h.1.0, window_over kind.Console old.memory m saved.console same ∙ h.1.1))
-  prevents_over BadDeviceWindow saved h = (
+  prevents_over BadDeviceWindow saved waiting h = (
     suits_over old m same saved h.0,
     (
       has_block saved h.1.0,
       (has_console saved h.1.1.0, devices_over old.memory m saved.devices.items old.devices same ∙ h.1.1.1),
+    ),
+  )
+  prevents_over BadWaiting saved waiting h = (
+    suits_over old m same saved h.0,
+    (
+      has_block saved h.1.0,
+      (
+        has_console saved h.1.1.0,
+        (
+          has_windows saved h.1.1.1.0,
+          taken_up_over old.memory m saved.devices.items waiting old.devices same ∙ h.1.1.1.1,
+        ),
+      ),
     ),
   )
 
@@ -128,8 +149,9 @@ module _ (old : SlotState) (m : Memory) (same : SameRange old.memory m) where
   prevented_over bytes why h = record {
     saved = h.saved;
     pending = h.pending;
+    waiting = h.waiting;
     read = h.read;
-    prevents = prevents_over why h.saved h.prevents;
+    prevents = prevents_over why h.saved h.waiting h.prevents;
   }
 
   cause_over : (bytes : List ℕ) (why : RestoreFault) → IsCauseOf (slot_in old) bytes why

@@ -1,7 +1,7 @@
 -- A guest that moves: it is saved on one board, and goes on in a slot of another.
 use Rattle.std.specs.Prelude.{◌≡◌, ℕ, List, ◌++◌, map, take, Some}
 use Rattle.std.specs.List.{slice_get}
-use Rattle.device_list.specs.Saved.{AreOfModels}
+use Rattle.device_list.specs.Waiting.{AreMadeAlike}
 use Rattle.board.specs.declared.event.EventKind.TheVariants.{Restore}
 use Rattle.board.specs.declared.reply.Record.{Record}
 use Rattle.board.specs.declared.reply.Reply.TheVariants.{Done}
@@ -13,15 +13,15 @@ use Rattle.board.specs.Slot.{BoardSlot, SlotState, state_of}
 use Rattle.board.specs.World.{World, Step}
 
 -- The slot of this state has the bytes of the saved slot's memory and of its disk, which lay in an image of these bytes;
--- or the host serves it the disk that it served that one, on hold or not. Its further devices are of that slot's types,
--- addresses and MTUs, and the same waits in them, of which a snapshot has nothing.
+-- or the host serves it the disk that it served that one, on hold or not. Each further device is as that slot's was when it
+-- was made, whatever waits in it.
 pub record HasBytesOf (saved : BoardSlot) (bytes : List ℕ) (state : SlotState) : Type 0 where
   pub memory : state.memory ≡ saved.memory
   pub extent : state.extent ≡ (state_of bytes saved).extent
   pub spare : state.spare ≡ saved.spare
   pub spare_bytes : state.spare_bytes ≡ (state_of bytes saved).spare_bytes
   pub host : KeepsHost saved.host state.host
-  pub devices : AreOfModels saved.devices state.devices
+  pub devices : AreMadeAlike saved.devices state.devices
 
 -- The guest of a saved slot moves to slot h of another board: what `save` wrote to the front of a buffer is restored there,
 -- behind the bytes of its memory and its disk.

@@ -177,15 +177,15 @@ pub fn one_outcome_within<A: Allocator>()
 {}
 
 /// A restore is refused for one cause: the bytes' first fault where they are no snapshot, else another description, else
-/// other further devices, else the block window, else the console's, else a further device's.
+/// other further devices, else the block window, else the console's, else a further device's, else what waits in one.
 pub fn a_restore_is_refused_for_one_cause()
     ensures { (slot : BoardSlot) (bytes : List ℕ) (one other : RestoreFault) →
         IsCauseOf slot bytes one → IsCauseOf slot bytes other → one ≡ other }
 {}
 
 /// A guest that moves to another board, whoever serves its disk, goes on as it would have. Where the host has put back the
-/// bytes of its memory and its disk, and the same waits in its further devices, the restore of what was saved brings the slot
-/// into the state in which it was saved (`state`). What the guest, quiet on both boards, has on the first in one slot, and
+/// bytes of its memory and its disk, the restore of what was saved brings the slot into the state in which it was saved
+/// (`state`), whatever waited in its further devices. What the guest, quiet on both boards, has on the first in one slot, and
 /// behind the restore on the second in another, is one run of it on its own, but for the slot's number in its records (`run`).
 pub fn a_restored_guest_goes_on<A: Allocator>()
     ensures state { (h : ℕ) (saved : BoardSlot) (bytes : List ℕ) (old : World) (restore : Move A) →

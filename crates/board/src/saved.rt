@@ -26,6 +26,9 @@ pub enum RestoreFault {
     /// A further device's window can't be so.
     #[error("a further device's window can't be so")]
     BadDeviceWindow,
+    /// What waits in a further device can't be so: it is spelled otherwise, or is more than the device holds.
+    #[error("what waits in a further device can't be so")]
+    BadWaiting,
 }
 
 /// Why a slot takes up no snapshot. Nothing has changed.

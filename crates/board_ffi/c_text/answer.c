@@ -76,6 +76,8 @@ const char *kalyubos_answer(uint32_t number)
         return "a guest that runs on is on no board: kalyubos_guest_create makes it";
     case KALYUBOS_BAD_EXTENT:
         return "a disk over the image has one or more spare sectors of its slot, which no other disk has";
+    case KALYUBOS_BAD_WAITING:
+        return "the snapshot has in a further device what can't wait there";
     default:
         return "a number that this version of kalyubos.h doesn't know";
     }

@@ -12,7 +12,7 @@ use Rattle.board.specs.declared.fault.BoardFault.TheVariants as board
 use Rattle.board.specs.declared.fault.SlotFault.{SlotFault}
 use Rattle.board.specs.declared.fault.SlotFault.TheVariants as slot
 use Rattle.board.specs.declared.saved.RestoreFault.{RestoreFault}
-use Rattle.board.specs.declared.saved.RestoreFault.TheVariants.{Snapshot, OtherSlot, BadDevice, BadBlock, BadConsole, BadDeviceWindow}
+use Rattle.board.specs.declared.saved.RestoreFault.TheVariants.{Snapshot, OtherSlot, BadDevice, BadBlock, BadConsole, BadDeviceWindow, BadWaiting}
 use Rattle.board.specs.declared.saved.RestoreRefusal.{RestoreRefusal}
 use Rattle.board.specs.declared.saved.RestoreRefusal.TheVariants as restore
 use Rattle.board.specs.declared.saved.SaveRefusal.{SaveRefusal}
@@ -98,8 +98,8 @@ save_code (Err why) = save_refusal_code why
 abbrev pub is_saving : ℕ → Bool
 is_saving code = (code == 0) || (code == 3) || (code == 19) || (code == 26)
 
--- a snapshot that a slot doesn't take up: bytes that are none, one of another description, of other further devices, or of
--- a window that can't be so
+-- a snapshot that a slot doesn't take up: bytes that are none, one of another description, of other further devices, of
+-- a window that can't be so, or of what can't wait in a further device
 abbrev pub restore_fault_code : RestoreFault → ℕ
 restore_fault_code (Snapshot fault) = 23
 restore_fault_code OtherSlot = 24
@@ -107,6 +107,7 @@ restore_fault_code BadDevice = 31
 restore_fault_code BadBlock = 25
 restore_fault_code BadConsole = 25
 restore_fault_code BadDeviceWindow = 25
+restore_fault_code BadWaiting = 36
 
 -- a slot that isn't restored
 abbrev pub restore_refusal_code : RestoreRefusal → ℕ

@@ -46,6 +46,8 @@ pub(crate) const RUNS_ON: u32 = 34;
 
 pub(crate) const BAD_EXTENT: u32 = 35;
 
+pub(crate) const BAD_WAITING: u32 = 36;
+
 /// The number of a call that was refused.
 pub(crate) fn of_refusal(why: Refusal) -> u32
     ensures { result ≡ refusal_code why }
@@ -171,6 +173,7 @@ fn of_restore_fault(why: RestoreFault) -> u32
         RestoreFault::BadBlock | RestoreFault::BadConsole | RestoreFault::BadDeviceWindow => {
             BAD_STATE
         }
+        RestoreFault::BadWaiting => BAD_WAITING,
     }
 }
 

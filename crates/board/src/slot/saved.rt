@@ -1,6 +1,7 @@
 //! A slot's snapshot, and a slot that takes one up.
 
 ghost use Rattle.std.specs.Prelude.{◌≡◌, ◌≢◌, ◌↔◌, ◌<◌, ◌≤◌, ℕ, false, IfErr, IfOk, IfSome, IsErr, IsOk, IsTrue, List, OnErr, OnOk, Some, length};
+ghost use Rattle.std.specs.Option.{option_map};
 ghost use Rattle.guest_memory.specs.Memory.{Memory};
 ghost use Rattle.mmio_window.specs.declared.device_kind.DeviceKind.{DeviceKind};
 ghost use Rattle.mmio_window.specs.Saved.{saved_window, window_restored};
@@ -22,23 +23,15 @@ use crate::slot::Slot;
 use mmio_window::{DeviceKind, SavedWindow, Window};
 use negotiation::Flags;
 use snapshot::{SavedSlot, ShortBuffer};
-use std::alloc::{AllocError, Allocator};
+use std::alloc::Allocator;
 
 impl<A: Allocator> Slot<A> {
-    /// The slot's snapshot.
-    pub(crate) fn save<B: Allocator>(&self, alloc: B) -> Result<Vec<u8, B>, AllocError>
-        ensures { IfOk result (λ bytes. IsSnapshotOf bytes.items self.now) }
-    {
-        let (front, back) = self.console_device.pending();
-        snapshot::write(alloc, self.saved(), front, back)
-    }
-
     /// How many bytes the slot's snapshot has.
     pub(crate) fn saved_len(&self) -> usize
         ensures { result ≡ length (snapshot_of self.now) }
     {
         let (front, back) = self.console_device.pending();
-        snapshot::written_len(&self.saved(), front, back)
+        snapshot::written_len(&self.saved(), front, back) + self.devices.waiting_len()
     }
 
     /// Writes the slot's snapshot to the front of a buffer, and answers how many bytes it has.
@@ -47,8 +40,17 @@ impl<A: Allocator> Slot<A> {
         ensures short { IsErr result ↔ (length into.old < length (snapshot_of self.now)) }
         ensures kept { OnErr result (into.new ≡ into.old) }
     {
+        let waiting = self.devices.waiting_len();
+        if into.len() < waiting {
+            return Err(ShortBuffer);
+        }
+        let room = into.len() - waiting;
         let (front, back) = self.console_device.pending();
-        snapshot::write_into(&self.saved(), front, back, into)
+        let waits = self.devices.len() > 0;
+        let at = snapshot::write_into(&self.saved(), front, back, waits, &mut into[..room])?;
+        let len = at + waiting;
+        self.devices.write_waiting(&mut into[at..len]);
+        Ok(len)
     }
 
     // What the slot keeps, as plain numbers.
@@ -91,7 +93,7 @@ impl<A: Allocator> Slot<A> {
             IsOk result × IsAs slot self.old self.new }
     {
         match snapshot::read(from) {
-            Ok((saved, pending)) => self.take_up(&saved, pending),
+            Ok((saved, pending, waiting)) => self.take_up(&saved, pending, waiting),
             Err(fault) => Err(RestoreFault::Snapshot(fault)),
         }
     }
@@ -120,12 +122,18 @@ impl<A: Allocator> Slot<A> {
         }
     }
 
-    // Takes up what was saved, with this pending input.
-    fn take_up(&mut self, saved: &SavedSlot, pending: &[u8]) -> Result<(), RestoreFault>
+    // Takes up what was saved, with this pending input, and with what waits in the further devices where that was saved.
+    fn take_up(
+        &mut self,
+        saved: &SavedSlot,
+        pending: &[u8],
+        waiting: Option<&[u8]>,
+    ) -> Result<(), RestoreFault>
         requires few { length pending.now ≤ 4096 }
         requires idle { are_at_work self.old.devices ≡ false }
-        ensures ok { OnOk result (TakesUp self.old saved.now pending.now self.new) }
-        ensures fault { IfErr result (Prevents self.old saved.now) }
+        ensures ok { OnOk result
+            (TakesUp self.old saved.now pending.now (option_map (λ bytes. bytes.now) waiting.entry) self.new) }
+        ensures fault { IfErr result (Prevents self.old saved.now (option_map (λ bytes. bytes.now) waiting.entry)) }
         ensures offers { OffersFeatures self.old }
         ensures kept { OnErr result (self.new ≡ self.old) }
         ensures place { KeepsPlace self.old self.new }
@@ -146,9 +154,17 @@ impl<A: Allocator> Slot<A> {
         else {
             return Err(RestoreFault::BadConsole);
         };
-        if !self.devices.restore(saved.devices.as_slice(), &self.memory) {
+        if !self
+            .devices
+            .can_restore(saved.devices.as_slice(), &self.memory)
+        {
             return Err(RestoreFault::BadDeviceWindow);
         }
+        if !self.devices.can_refill(waiting) {
+            return Err(RestoreFault::BadWaiting);
+        }
+        self.devices.restore(saved.devices.as_slice(), &self.memory);
+        self.devices.refill(waiting);
         self.block = block.in_place_of(&self.block);
         self.console = console.in_place_of(&self.console);
         self.console_device.restore(pending, saved.cols, saved.rows);
