@@ -7,7 +7,7 @@ from .follows import IN_QUEUE, OF_QUEUE, Guest, Life, Setup, Wide
 from .histories import interrupts_stand
 from .lots import Dice
 from .requests import FLUSH, GET_ID, IN, OUT, WRITE_ZEROES, header, segment
-from .saved import saved, saved_window
+from .saved import saved, saved_window, waiting
 from .story import SECTOR
 
 TITLE = "Walks among further devices"
@@ -231,15 +231,16 @@ class Driver(Guest):
             content = content[:at] + bytes([content[at] ^ 1 << dice.below(8)]) + content[at + 1:]
         self.do("st", content.hex())
 
-    def snapshot(self, change=lambda own, windows: None):
-        """The slot's, with its further devices; a change is made to its own fields and to the devices' windows."""
+    def snapshot(self, change=lambda own, windows: None, version=2):
+        """The slot's, with its further devices, in version 3 with what waits in them; a change is made to its own fields and to the devices' windows."""
         slot = self.life.board[self.slot]
         own, windows = saved(self), [saved_window(one.window) for one in slot.devices]
         change(own, windows)
         front, behind = own.spelled(), 4 + len(own.pending)
         devices = b"".join(number(one.window.device_id, 4) + one.address + number(one.mtu, 2) + number(one.sectors, 8) + one.identity
                            + window.spelled() for one, window in zip(slot.devices, windows))
-        return front[:8] + number(2, 4) + front[12:-behind] + number(len(slot.devices), 4) + devices + front[-behind:]
+        whole = front[:8] + number(version, 4) + front[12:-behind] + number(len(slot.devices), 4) + devices + front[-behind:]
+        return whole + b"".join(map(waiting, slot.devices)) if version == 3 else whole
 
     # --- what is seen
 

@@ -3,6 +3,8 @@ import copy
 import dataclasses
 import typing
 
+from mutants import model
+
 from .drivers import number
 
 
@@ -80,6 +82,25 @@ def saved_window(window):
     return SavedWindow(window.offered_bits(), window.status, window.driver_features, selectors,
                        (queues + [SavedQueue()])[:2], window.interrupts,
                        window.generation)
+
+
+def counted(content):
+    return number(len(content), 4) + content
+
+
+def frames(waiting):
+    return number(len(waiting), 4) + b"".join([*[number(len(one), 4) for one in waiting], *waiting])
+
+
+def waiting(device):
+    """What waits in a further device; its card has dropped nothing."""
+    if isinstance(device, model.Entropy):
+        return counted(device.pool)
+    if isinstance(device, model.Card):
+        return bytes([device.link]) + bytes(16) + frames(device.incoming.waiting) + frames(device.sent.waiting)
+    if isinstance(device, model.Console):
+        return number(device.cols, 2) + number(device.rows, 2) + counted(device.pending) + counted(device.output)
+    return bytes([device.held])
 
 
 def restore(guest, snapshot):

@@ -233,11 +233,25 @@ class Snapshot:
     def value(self, count):
         return int.from_bytes(self.take(count), "little")
 
-    def choice(self, values):
-        found = self.value(1)
+    def one_of(self, count, values):
+        found = self.value(count)
         if found not in values:
             raise NoSnapshot
         return found
+
+    def choice(self, values):
+        return self.one_of(1, values)
+
+    def counted(self, most):
+        """At most so many bytes, behind their number."""
+        return self.take(self.one_of(4, range(most + 1)))
+
+    def frames(self):
+        """At most 64 frames with at most 65536 bytes together, behind their number and the length of each."""
+        lengths = [self.value(4) for _ in range(self.one_of(4, range(65)))]
+        if sum(lengths) > 65536:
+            raise NoSnapshot
+        return [self.take(length) for length in lengths]
 
     def only(self, expected):
         """The next field must have this value."""
@@ -657,7 +671,7 @@ class Slot:
             raise Busy
         snapshot = Snapshot(content)
         snapshot.only(b"KALYUBOS")
-        snapshot.only_value(4, 2 if self.devices else 1)
+        version = snapshot.one_of(4, (2, 3) if self.devices else (1,))
         first, span = self.memory.span()
         snapshot.only_value(8, first)
         snapshot.only_value(8, span)
@@ -674,12 +688,15 @@ class Slot:
         if count > 4096:
             raise NoSnapshot
         pending = snapshot.take(count)
+        waiting = [device.waits_in(snapshot) for device in self.devices if version == 3]
         if snapshot.rest:
             raise NoSnapshot
         self.windows, self.pending, self.cols, self.rows = windows, pending, cols, rows
         self.held = held
         for device, window in zip(self.devices, of_devices):
             device.windows = dict.fromkeys(device.windows, window)
+        for device, found in zip(self.devices, waiting):
+            vars(device).update(found)
 
     # --- services
 
@@ -1014,6 +1031,10 @@ class Entropy(Further):
         super().__init__(slot, 4, 1)
         self.pool = b""
 
+    def waits_in(self, snapshot):
+        """What waits by a snapshot of version 3: values of fields by their names."""
+        return {"pool": snapshot.counted(4096)}
+
     def configuration(self, window):
         return bytes(64)
 
@@ -1037,8 +1058,8 @@ class Entropy(Further):
 class Frames:
     """The frames that wait one way, the oldest first."""
 
-    def __init__(self):
-        self.waiting = []
+    def __init__(self, waiting=()):
+        self.waiting = list(waiting)
 
     def put(self, frame):
         """Whether there is room for it."""
@@ -1064,6 +1085,12 @@ class Card(Further):
         super().__init__(slot, 1, 2, ["mtu", "mac", "status"])
         self.address, self.mtu, self.link = address, mtu, 1
         self.incoming, self.sent = Frames(), Frames()
+
+    def waits_in(self, snapshot):
+        """Behind the link stand two counts of dropped frames, which no event tells."""
+        link, _ = snapshot.choice([0, 1]), snapshot.take(16)
+        incoming, sent = Frames(snapshot.frames()), Frames(snapshot.frames())
+        return {"link": link, "incoming": incoming, "sent": sent}
 
     def configuration(self, window):
         fields = bytearray(64)
@@ -1143,6 +1170,9 @@ class Disk(HostedSlot, Further):
     def use(self, index, chain):
         return self.request(chain)
 
+    def waits_in(self, snapshot):
+        return {"held": snapshot.choice([0, 1]) == 1}
+
 
 class ImageDisk(Further):
     """A further disk (5.2) over some of its slot's spare sectors, the first of them at this place among those."""
@@ -1162,6 +1192,11 @@ class ImageDisk(Further):
     def configuration(self, window):
         return Slot.configuration(self, "b")
 
+    def waits_in(self, snapshot):
+        """It is on hold where the host served it; here it never is."""
+        snapshot.choice([0, 1])
+        return {}
+
     def wants(self, index):
         return True
 
@@ -1180,6 +1215,10 @@ class Console(Further):
         super().__init__(slot, 3, 2, ["size", "emerg_write"])
         self.windows["c"] = self.window
         self.cols, self.rows, self.pending, self.output = cols, rows, b"", b""
+
+    def waits_in(self, snapshot):
+        size = {"cols": snapshot.value(2), "rows": snapshot.value(2)}
+        return {**size, "pending": snapshot.counted(4096), "output": snapshot.counted(65536)}
 
     def configuration(self, window):
         return super().configuration("c")

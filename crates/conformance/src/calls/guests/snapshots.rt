@@ -1,10 +1,10 @@
 //! A slot of a board or a session, saved as a snapshot and restored.
 
 use super::Guests;
-use crate::calls::answer::{put_bytes, put_result, put_word};
+use crate::calls::answer::{put_bytes, put_number, put_result, put_word};
 use crate::calls::subject::{Answered, Stuck};
 use crate::calls::words::Words;
-use board::{Board, Bytes, Event, EventKind, Image, RestoreRefusal};
+use board::{Board, Bytes, Event, EventKind, Image, RestoreRefusal, SaveRefusal};
 use std::alloc::{AllocError, Allocator};
 
 impl<'h, B: Allocator> Guests<'h, B> {
@@ -16,6 +16,7 @@ impl<'h, B: Allocator> Guests<'h, B> {
     ) -> Answered {
         match words.name() {
             "save" => self.save(words, answer),
+            "save_into" => self.save_into(words, answer),
             "restore" => self.restore(words, answer),
             "restore_event" => self.restore_event(words, answer),
             _ => self.call_session(words, answer),
@@ -30,6 +31,19 @@ impl<'h, B: Allocator> Guests<'h, B> {
         match saved(self.heap, board, words.u8())? {
             Some(bytes) => put_bytes(self.alloc, answer, &bytes),
             None => put_word(answer, "none"),
+        }
+    }
+
+    // A slot is saved into a buffer of so many bytes.
+    fn save_into(&self, words: &mut Words<'_>, answer: &mut String) -> Answered {
+        let Some(board) = &self.board else {
+            return Err(Stuck::Conditions);
+        };
+        let slot = words.u8();
+        let mut into = vec![in self.heap; 0; words.u32() as usize]?;
+        match saved_into(board, slot, &mut into) {
+            Ok(len) => put_number(answer, len as u64),
+            Err(why) => put_result(answer, Err(why)),
         }
     }
 
@@ -83,7 +97,15 @@ fn saved<I: Image, A: Allocator + Copy>(
     }
 }
 
-// What this call promises isn't needed here.
+// What these calls promise isn't needed here.
+fn saved_into<I: Image, A: Allocator>(
+    board: &Board<I, A>,
+    slot: u8,
+    into: &mut [u8],
+) -> Result<usize, SaveRefusal> {
+    board.save(slot, into)
+}
+
 fn restored<I: Image, A: Allocator>(
     board: &mut Board<I, A>,
     slot: u8,
