@@ -5,7 +5,7 @@
 #include "saves.h"
 #include "shut_heap.h"
 
-enum { ROOM = 1 << 17, ONE_IN = 16 };
+enum { ROOM = 1 << 20, ONE_IN = 16, FRAMES = 1 << 16 };
 static uint8_t saved[ROOM], again[ROOM];
 static size_t saved_len;
 
@@ -39,6 +39,30 @@ static void write_register(const struct seat *seat, uint8_t window, uint16_t off
     need(kalyubos_write(seat->board, seat->slot, window, offset, 4, value, &pending) == KALYUBOS_DONE, "a write", seat->slot);
 }
 
+static void is_of_a_kind(uint32_t answer)
+{
+    need(answer == KALYUBOS_DONE || answer == KALYUBOS_BAD_WINDOW, "a call of a further device", answer);
+}
+
+/* Resets the windows of its further devices too, and leaves random bytes, frames and a link of its own there: each call is taken by the
+ * devices of its kind, and by no other. Some of what waits for the host is taken. */
+static void use_devices_as_a_stranger(const struct seat *seat)
+{
+    static uint8_t bytes[FRAMES];
+    for (size_t i = 0; i < seat->guest->devices_len; i++) {
+        uint8_t window = (uint8_t)(KALYUBOS_DEVICE + i);
+        size_t len;
+        bool taken;
+        write_register(seat, window, 0x70, 0);
+        is_of_a_kind(kalyubos_supply(seat->board, seat->slot, window, bytes, thrown(64), &len));
+        for (uint64_t left = thrown(3); left != 0; left--) {
+            is_of_a_kind(kalyubos_receive(seat->board, seat->slot, window, bytes, 1 + thrown(64), &taken));
+            is_of_a_kind(kalyubos_take_frame(seat->board, seat->slot, window, bytes, sizeof bytes, &len));
+        }
+        is_of_a_kind(kalyubos_set_link(seat->board, seat->slot, window, thrown(2) != 0));
+    }
+}
+
 /* Resets both windows, and leaves registers, queues, a size, a hold and typed bytes of its own there. It notifies nothing. */
 static void use_as_a_stranger(const struct seat *seat)
 {
@@ -59,6 +83,7 @@ static void use_as_a_stranger(const struct seat *seat)
     kalyubos_resize(seat->board, seat->slot, (uint16_t)thrown(300), (uint16_t)thrown(300), &pending);
     uint32_t answer = (thrown(2) ? kalyubos_hold : kalyubos_release)(seat->board, seat->slot, KALYUBOS_BLOCK, &pending);
     need(answer == KALYUBOS_IDLE || (answer == KALYUBOS_DONE && seat->disk != NULL), "a hold or a release", answer);
+    use_devices_as_a_stranger(seat);
 }
 
 void check_no_save(struct seat *seat)

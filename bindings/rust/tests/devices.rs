@@ -1,8 +1,8 @@
 //! Further devices: an entropy device, a network card, a disk and a console, from their making to what their drivers get.
 
 use kalyubos::{
-    Board, Budget, Config, CreateError, Device, DevicePending, Error, Handed, Kind, Outcome, Run,
-    Slot, Tags, Window,
+    Board, Budget, Config, CreateError, Device, DevicePending, Error, Handed, Kind, Outcome,
+    RestoreError, Run, Slot, Tags, Window,
 };
 use std::num::NonZeroU32;
 
@@ -315,6 +315,39 @@ fn a_driver_gets_the_bytes_of_its_host() {
         b"sixteen bytes..!"
     );
     assert_eq!(board.receive(0, 0, &[0; 64]), Err(Error::BadDevice));
+}
+
+/// A driver that waits, a frame that waits for another one, and a link that is down, behind a roll-back.
+#[test]
+fn what_waits_is_saved_and_restored() {
+    let mut board = board_of(&[Device::Entropy, CARD]);
+    offer(&mut board, 0, 0, 16, 2);
+    assert_eq!(board.receive(0, 1, &[9; 64]), whole(true));
+    assert_eq!(board.set_link(0, 1, false), Ok(()));
+    let devices = board.save(0).expect("a snapshot");
+    let memory = board.memory(0, MEMORY).expect("a memory").to_vec();
+
+    assert_eq!(board.supply(0, 0, &[1; 100]), whole(100));
+    assert_eq!(board.receive(0, 1, &[8; 64]), whole(true));
+    assert_eq!(board.set_link(0, 1, true), Ok(()));
+    assert_ne!(board.save(0), Ok(devices.clone()));
+
+    board
+        .memory(0, MEMORY)
+        .expect("a memory")
+        .copy_from_slice(&memory);
+    let cut = board.restore(0, &devices[..devices.len() - 1]);
+    assert_eq!(cut, Err(RestoreError::BadWaiting));
+    let _ = board.restore(0, &devices).expect("a restore");
+    assert_eq!(board.save(0), Ok(devices));
+    assert!(board.device_pending(0, 0).unwrap().starved);
+    assert_eq!(board.supply(0, 0, &[2; 16]), whole(16));
+    assert_eq!(board.memory(0, MEMORY + 0x400).unwrap()[..16], [2; 16]);
+
+    offer(&mut board, 1, 0, 200, 2);
+    assert_eq!(used(&mut board), (1, 64 + HEADER as u8));
+    assert_eq!(board.memory(0, MEMORY + 0x400).unwrap()[HEADER], 9);
+    assert_eq!(board.read(0, Window::Device(1), 0x106, 2), Ok(0));
 }
 
 #[test]

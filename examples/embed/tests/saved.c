@@ -74,6 +74,7 @@ static void check_refusals(void)
     static const struct { size_t place; uint8_t byte; uint32_t answer; } rows[] = {
         { 0, 'L', KALYUBOS_BAD_SNAPSHOT },   { 8, 2, KALYUBOS_BAD_SNAPSHOT },    /* magic, version */
         { 36, 2, KALYUBOS_BAD_SNAPSHOT },    { 153, 4, KALYUBOS_BAD_SNAPSHOT },  /* a flag, interrupts */
+        { 8, 3, KALYUBOS_BAD_SNAPSHOT },     { 8, 4, KALYUBOS_BAD_SNAPSHOT },    /* without further devices, no version */
         { HELD, 2, KALYUBOS_BAD_SNAPSHOT },                                    /* another flag */
         { 12, 1, KALYUBOS_OTHER_SLOT },      { 22, 2, KALYUBOS_OTHER_SLOT },     /* base, length */
         { 28, 5, KALYUBOS_OTHER_SLOT },      { 36, 1, KALYUBOS_OTHER_SLOT },     /* sectors, read-only */
