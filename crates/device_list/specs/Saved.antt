@@ -1,6 +1,5 @@
--- What is saved of the devices, and what they become that take it up: their windows alone. What waits in a pool, in
--- a network card or in a console isn't saved, and stays as it is, and so do a console's size and whether a disk's queue is on
--- hold.
+-- What is saved of the devices' windows, and what the devices become that take it up. What waits in them stays here as
+-- it is: `Waiting` has that.
 use Rattle.std.specs.Prelude.{◌≡◌, ℕ, zero, suc, List, [], ◌∷◌, Option, Some, length, map, replicate, slice_set}
 use Rattle.std.specs.List.{AllZip, slice_get}
 use Rattle.std.specs.Option.{option_and_then, option_map}
