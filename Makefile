@@ -17,8 +17,8 @@ INCLUDEDIR ?= $(PREFIX)/include
 PROGRAM := $(CURDIR)/$(if $(UNPROVED),out/vreplay-unproved,crates/vreplay/out/vreplay)
 BUILT := $(if $(UNPROVED),unproved-program)
 
-# Replays TRACE=FILE over IMAGE=FILE, by the proved program if it is built, else without a proof. SAVE=FILE gets the image's bytes
-# afterwards; it needs the proved program. Without IMAGE there are eight sectors of zeros.
+# Replays TRACE=FILE over IMAGE=FILE, by the proved program if it is built, else by one without proofs. SAVE=FILE gets the image's bytes
+# afterwards. Without IMAGE there are eight sectors of zeros.
 run:
 	@packaging/replay "$(TRACE)" "$(IMAGE)" "$(SAVE)"
 

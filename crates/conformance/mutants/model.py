@@ -1,9 +1,9 @@
 #!/usr/bin/env python3
 """A small model of the board, written from docs/model.md and docs/formats.md alone; `changes` has what to break in it.
 
-    model.py TRACE IMAGE [--save FILE] [--fails N,..] [--lacks FEATURE]
+    model.py TRACE [IMAGE] [--save FILE] [--fails N,..] [--lacks FEATURE]
 
-Each rule stands on a line of its own, so that one change breaks one rule. It is slow and plain on purpose. trace_text.py, beside it,
+Without IMAGE there are eight sectors of zeros. Each rule stands on a line of its own, so that one change breaks one rule. It is slow and plain on purpose. trace_text.py, beside it,
 takes the trace apart.
 """
 import sys
@@ -1584,6 +1584,11 @@ def replay(text, content, fails=(), lacks=(), fault_of=None):
     return "".join(told(board, word, fields) + "\n" for word, *fields in events), 0, image
 
 
+def read_file(path):
+    with open(path, "rb") as file:
+        return file.read()
+
+
 def main(words):
     options = {"--save": None, "--fails": "", "--lacks": ""}
     files = []
@@ -1593,9 +1598,9 @@ def main(words):
             options[word] = next(rest)
         else:
             files.append(word)
-    with open(files[0], "rb") as trace, open(files[1], "rb") as before:
-        fails = {int(one) for one in options["--fails"].split(",") if one}
-        output, status, image = replay(trace.read(), before.read(), fails, options["--lacks"].split(","), trace_text.fault_of)
+    text, content = [*map(read_file, files), bytes(8 * SECTOR)][:2]
+    fails = {int(one) for one in options["--fails"].split(",") if one}
+    output, status, image = replay(text, content, fails, options["--lacks"].split(","), trace_text.fault_of)
     sys.stdout.write(output)
     if options["--save"] and not status:
         with open(options["--save"], "wb") as after:
