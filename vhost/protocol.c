@@ -239,9 +239,9 @@ static struct region region_of(const struct wire_region *said, int file)
 }
 
 /*
- * Other regions: each queue that ran goes on over them from where it stood. A guest of the library has the memory that it was made
- * with, so each queue's ends and another is made. A call of the library that gives a guest other memory would replace the stop and
- * the start of each of these three messages.
+ * Other regions: each queue that ran goes on over them from where it stood. Its guest of the library ends with its thread and its
+ * mapping, and another is made. kalyubos_guest_set_memory would keep the guest, but wants all that is in flight completed too, as the
+ * stop has it, and the threads that run to take up a mapping.
  */
 static const char *set_memory(struct front_end *front_end, struct message *message)
 {

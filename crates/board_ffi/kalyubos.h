@@ -37,7 +37,7 @@
  * The library is built for x86-64-v2 (SSE4.2 and POPCNT) and Linux's calling convention.
  *
  * The library keeps no pointer of the caller but those of loans (kalyubos_create, kalyubos_keep_pages,
- * kalyubos_guest_create): a call copies what it needs.
+ * kalyubos_guest_create, kalyubos_guest_set_memory): a call copies what it needs.
  *
  * Each call answers a number. After any but KALYUBOS_DONE its out parameters are unchanged, with these exceptions. A
  * struct kalyubos_pending is told after every answer where the slot exists. What was taken of what is handed in
@@ -60,9 +60,10 @@
  * show spare sectors of a slot whose own disk is of the image.
  *
  * kalyubos_create takes all memory that a board needs, and kalyubos_destroy gives it back; kalyubos_guest_create and
- * kalyubos_guest_destroy do so for a guest that runs on. kalyubos_judge takes some, and gives it back before it answers.
- * No other call takes or gives any, so no guest can be refused memory for what another did: what a guest sees is decided
- * by its own slot's calls alone, those for its disk among them.
+ * kalyubos_guest_destroy do so for a guest that runs on, and kalyubos_guest_set_memory takes a new list of its words and gives
+ * the one before back. kalyubos_judge takes some, and gives it back before it answers. No other call takes or gives any, so no
+ * guest can be refused memory for what another did: what a guest sees is decided by its own slot's calls alone, those for its
+ * disk among them.
  *
  * crates/c_values/api/make makes this file of a table.
  */
@@ -763,8 +764,9 @@ static inline struct kalyubos_guest_config kalyubos_guest_config_of(const struct
  *
  * Each run of words is taken: null and 0 are left in its place. After HAS_BOARD, BAD_SIZE, NOT_HOSTED and BAD_DEVICE all are
  * as they were. After another refusal the first of them are taken, which may be none or all, and the words are the host's
- * again. No word is read or written by this call or by kalyubos_guest_destroy. Until kalyubos_guest_destroy they stay mapped
- * where they are, and no two runs of any guests or boards share a word.
+ * again. No word is read or written by this call or by kalyubos_guest_destroy. Until kalyubos_guest_destroy, or a
+ * kalyubos_guest_set_memory that is done, they stay mapped where they are, and no two runs of any guests or boards share a
+ * word.
  *
  * Choose `outlet` as for kalyubos_create: a chain that is longer is never let through.
  *
@@ -851,6 +853,22 @@ uint32_t kalyubos_guest_place(const struct kalyubos_guest *guest, uint8_t window
  */
 uint32_t kalyubos_guest_set_place(struct kalyubos_guest *guest, uint8_t window, uint16_t queue, uint16_t place);
 
+/*
+ * Gives the guest these regions over these words, in the place of its memory: memory was plugged in or out, or lies elsewhere.
+ * Its devices go on where they stand, and the words before are the host's again. As the new ones share none with those before,
+ * map memory that stays a second time. The first of these that holds is answered; after each but DONE the guest is as it was.
+ *  - BUSY: an operation of the disk is in flight, or a queue is due. Hold the disk (kalyubos_guest_hold), let what is in flight
+ *    be completed, call kalyubos_guest_go_on while it answers MORE, and make the call again.
+ *  - BAD_LOAN: `words` isn't as the regions are, or there are more than KALYUBOS_REGIONS.
+ *  - NO_REGIONS, then region by region BAD_MEMORY_SIZE, BAD_MEMORY_BASE and REGIONS_NOT_APART.
+ *  - BAD_RANGE: the areas of a ready queue don't lie in these regions, each in one.
+ * NO_MEMORY may come in the place of those from BAD_LOAN on. Each run of words is taken, as kalyubos_guest_create has it: after
+ * BUSY all are as they were. No word is read or written.
+ */
+KALYUBOS_LOOK_AT_IT
+uint32_t kalyubos_guest_set_memory(struct kalyubos_guest *guest, const struct kalyubos_region *regions,
+                                   size_t regions_len, struct kalyubos_words *words, size_t words_len);
+
 /* InterruptStatus of both windows, as kalyubos_interrupts. */
 uint32_t kalyubos_guest_interrupts(const struct kalyubos_guest *guest, uint8_t *block, uint8_t *console);
 
@@ -863,9 +881,9 @@ uint32_t kalyubos_guest_last_fault(const struct kalyubos_guest *guest, uint8_t w
 /*
  * The heap. The installed library has it over malloc, as examples/embed/support/heap.c does; a host that defines one of these
  * defines all of them. They are of one heap, and are called within the calls that make, judge or destroy a board or a
- * guest alone. A block is aligned to `align`, a power of two up to 16. `found` is false where there is no
- * memory, and `at` is then any address; a block that couldn't be resized stands as it was. Of a block that is resized
- * the first `kept` bytes stay. A block of size 0 is a block as any other.
+ * guest, or give a guest other memory, alone. A block is aligned to `align`, a power of two up to 16. `found` is false where
+ * there is no memory, and `at` is then any address; a block that couldn't be resized stands as it was. Of a block that is
+ * resized the first `kept` bytes stay. A block of size 0 is a block as any other.
  */
 struct kalyubos_block {
     bool found;

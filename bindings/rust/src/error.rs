@@ -111,6 +111,30 @@ pub enum CreateError {
     Other(u32),
 }
 
+/// Why a guest that runs on keeps its memory, as [`RunningGuest::set_lent`](crate::RunningGuest::set_lent) has it. Nothing changed.
+#[derive(Clone, Copy, Debug, PartialEq, Eq, Hash)]
+#[non_exhaustive]
+pub enum MemoryError {
+    /// An operation of the disk is in flight, or a queue is due.
+    Busy,
+    /// The lent words have another number or length than the regions, or there are more than eight regions.
+    BadLoan,
+    /// There is no region.
+    NoRegions,
+    /// A region's length is no multiple of 4096 from 4096 on, or the regions have more than 2^46 bytes.
+    BadMemorySize,
+    /// A region's base is no multiple of 4096, or the region passes 2^64.
+    BadMemoryBase,
+    /// A region doesn't begin behind a gap after the one before it.
+    RegionsNotApart,
+    /// The areas of a ready queue don't lie in these regions.
+    QueueOutside,
+    /// The heap has too little memory.
+    NoMemory,
+    /// A number that this crate doesn't know, of a newer library.
+    Other(u32),
+}
+
 /// What is wrong with a [`Config`](crate::Config), and where.
 #[derive(Clone, Copy, Debug, PartialEq, Eq, Hash)]
 #[non_exhaustive]
@@ -166,6 +190,25 @@ impl RestoreError {
             answers::BAD_WAITING => Err(RestoreError::BadWaiting),
             number => Err(RestoreError::Other(number)),
         }
+    }
+}
+
+impl MemoryError {
+    /// What the number of an answer about other memory says.
+    pub(crate) fn check(number: u32) -> Result<(), MemoryError> {
+        use MemoryError::*;
+        Err(match number {
+            answers::DONE => return Ok(()),
+            answers::BUSY => Busy,
+            answers::BAD_LOAN => BadLoan,
+            answers::NO_REGIONS => NoRegions,
+            answers::BAD_MEMORY_SIZE => BadMemorySize,
+            answers::BAD_MEMORY_BASE => BadMemoryBase,
+            answers::REGIONS_NOT_APART => RegionsNotApart,
+            answers::BAD_RANGE => QueueOutside,
+            answers::NO_MEMORY => NoMemory,
+            number => Other(number),
+        })
     }
 }
 
@@ -238,6 +281,25 @@ impl fmt::Display for RestoreError {
     }
 }
 
+impl fmt::Display for MemoryError {
+    fn fmt(&self, f: &mut fmt::Formatter<'_>) -> fmt::Result {
+        use MemoryError::*;
+        f.write_str(match self {
+            Busy => "an operation of the disk is in flight, or a queue is due",
+            BadLoan => "each region needs lent words of its length, and there are eight at most",
+            NoRegions => "a guest needs a region of memory",
+            BadMemorySize => {
+                "a region's length is a multiple of 4096, and a guest has 2^46 bytes at most"
+            }
+            BadMemoryBase => "a region begins at a multiple of 4096 and ends at 2^64 or before",
+            RegionsNotApart => "regions stand in ascending order, with a gap between each two",
+            QueueOutside => "a ready queue lies outside the memory",
+            NoMemory => "out of memory",
+            Other(number) => return write!(f, "the library answered {number}"),
+        })
+    }
+}
+
 impl fmt::Display for CreateError {
     fn fmt(&self, f: &mut fmt::Formatter<'_>) -> fmt::Result {
         use CreateError::*;
@@ -294,3 +356,4 @@ impl error::Error for Error {}
 impl error::Error for Fault {}
 impl error::Error for RestoreError {}
 impl error::Error for CreateError {}
+impl error::Error for MemoryError {}

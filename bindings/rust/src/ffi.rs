@@ -484,6 +484,13 @@ unsafe extern "C" {
         queue: u16,
         place: u16,
     ) -> u32;
+    pub fn kalyubos_guest_set_memory(
+        guest: *mut GuestHandle,
+        regions: *const Region,
+        regions_len: usize,
+        words: *mut Words,
+        words_len: usize,
+    ) -> u32;
     pub fn kalyubos_guest_interrupts(
         guest: *const GuestHandle,
         block: *mut u8,

@@ -23,7 +23,7 @@ pub use board::{Board, Budget, Interrupts, Pending, Window};
 pub use config::Config;
 pub use counters::Counters;
 pub use device::{Device, DevicePending, Handed};
-pub use error::{CreateError, Error, Fault, RestoreError};
+pub use error::{CreateError, Error, Fault, MemoryError, RestoreError};
 pub use fault::{DriverFault, FaultKind};
 pub use identity::{Identity, IdentityTooLong};
 pub use lines::Lines;

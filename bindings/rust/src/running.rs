@@ -2,12 +2,12 @@
 
 use crate::board::{Budget, Interrupts, Pending, Window};
 use crate::config::check_version;
-use crate::error::{CreateError, Error};
+use crate::error::{CreateError, Error, MemoryError};
 use crate::fault::DriverFault;
 use crate::ffi;
 use crate::operation::{Operation, Outcome, Run};
 use crate::shared::SharedMemory;
-use crate::slot::Slot;
+use crate::slot::{Region, Slot};
 use crate::tags::Tags;
 use std::mem;
 use std::num::{NonZeroU32, NonZeroU64};
@@ -343,6 +343,34 @@ impl RunningGuest {
         Error::check(unsafe {
             ffi::kalyubos_guest_set_place(&mut self.handle, window.number(), queue, place)
         })
+    }
+
+    /// Gives the guest these regions over words that the host lends, in the place of its [`memory`](RunningGuest::memory): memory was
+    /// plugged in or out, or lies elsewhere. Its devices go on where they stand. No word is read or written. A clone of the memory
+    /// before stays what it was.
+    ///
+    /// # Safety
+    ///
+    /// The words are as those of [`over_lent`](RunningGuest::over_lent). They share none with the guest's words before, too: memory
+    /// that stays is mapped a second time.
+    pub unsafe fn set_lent(
+        &mut self,
+        regions: &[Region],
+        lent: &[NonNull<[AtomicU64]>],
+    ) -> Result<(), MemoryError> {
+        let memory = SharedMemory::lent(regions, lent);
+        let mut words = memory.in_c();
+        MemoryError::check(unsafe {
+            ffi::kalyubos_guest_set_memory(
+                &mut self.handle,
+                regions.as_ptr(),
+                regions.len(),
+                words.as_mut_ptr(),
+                words.len(),
+            )
+        })?;
+        self.memory = memory;
+        Ok(())
     }
 
     /// The interrupt words of the disk and the console. Each call that may move them tells them; a read moves none.

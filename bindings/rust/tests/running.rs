@@ -1,11 +1,12 @@
 //! A guest that runs on, whose memory other threads write while it is served. What is expected is of VIRTIO 1.2.
 
 use kalyubos::{
-    Budget, CreateError, Device, Error, FaultKind, GuestConfig, Interrupts, Kind, Outcome, Pending,
-    Run, RunningGuest, SharedMemory, Slot, Window,
+    Budget, CreateError, Device, Error, FaultKind, GuestConfig, Interrupts, Kind, MemoryError,
+    Outcome, Pending, Region, Run, RunningGuest, SharedMemory, Slot, Window,
 };
 use std::num::NonZeroU32;
-use std::sync::atomic::{AtomicBool, Ordering};
+use std::ptr::NonNull;
+use std::sync::atomic::{AtomicBool, AtomicU64, Ordering};
 use std::sync::Arc;
 use std::thread;
 
@@ -219,6 +220,34 @@ fn a_queue_goes_on_where_another_device_left_it() {
     assert_eq!(used(&memory, DISK), (0, 0, 513));
     assert_eq!(guest.place(Window::Block, 0), Ok(0));
     assert_eq!(guest.set_place(Window::Block, 1, 0), Err(Error::Idle));
+}
+
+/// What its driver laid out is copied to the other memory, and a request is served there.
+#[test]
+fn a_guest_goes_on_in_other_memory() {
+    let words: Vec<_> = (0..0x2200).map(|_| AtomicU64::new(0)).collect();
+    let lent = [&words[..0x2000], &words[0x2000..]].map(NonNull::from);
+    let slot = slot();
+    let mut guest = guest_of(&slot);
+    bring_up(&mut guest);
+    request(guest.memory(), 0, 1, WRITE);
+    read_sector(&mut guest, 1, 5);
+    let before = guest.memory().clone();
+    let (base, len) = (HIGH, 0x1_0000);
+    // SAFETY: the words stay until the guest is dropped, and are lent to no other.
+    let mut set = |regions: &[Region], count| unsafe { guest.set_lent(regions, &lent[..count]) };
+    assert_eq!(
+        set(&[Region { base, len }], 1),
+        Err(MemoryError::QueueOutside)
+    );
+    assert_eq!(set(slot.regions(), 1), Err(MemoryError::BadLoan));
+    assert_eq!(set(&[], 0), Err(MemoryError::NoRegions));
+    assert_eq!(set(slot.regions(), 2), Ok(()));
+    let mut all = vec![0; 0x1_0000];
+    before.read(LOW, &mut all).unwrap();
+    guest.memory().write(LOW, &all).unwrap();
+    read_sector(&mut guest, 2, 6);
+    assert_eq!(bytes(&before, DATA[0].at), [5; 200]);
 }
 
 #[test]

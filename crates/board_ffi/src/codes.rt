@@ -8,8 +8,8 @@ ghost use Rattle.board_ffi.specs.Codes.{board_code, code_at, code_by, fault_code
 
 use c_values::of_memory_fault;
 pub(crate) use c_values::{
-    BAD_DEPTH, BAD_DEVICE, BAD_LOAN, BAD_OUTLET, BAD_SIZE, BAD_WINDOW, BUSY, DONE, EXTENT_OUTSIDE,
-    HAS_BOARD, IDLE, IO, MORE, NO_BOARD, NO_MEMORY, NO_ROOM,
+    BAD_DEPTH, BAD_DEVICE, BAD_LOAN, BAD_OUTLET, BAD_RANGE, BAD_SIZE, BAD_WINDOW, BUSY, DONE,
+    EXTENT_OUTSIDE, HAS_BOARD, IDLE, IO, MORE, NO_BOARD, NO_MEMORY, NO_ROOM,
 };
 use session::{
     BoardFault, CacheFault, Handed, Progress, Refusal, RestoreFault, RestoreRefusal, SaveRefusal,
@@ -17,8 +17,6 @@ use session::{
 };
 
 pub(crate) const BAD_SLOT: u32 = 3;
-
-pub(crate) const BAD_RANGE: u32 = 4;
 
 pub(crate) const BAD_IMAGE: u32 = 7;
 

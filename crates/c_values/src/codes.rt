@@ -14,6 +14,9 @@ pub const NO_BOARD: u32 = 1;
 /// The handle holds something already, and goes on holding it.
 pub const HAS_BOARD: u32 = 2;
 
+/// No region, nor the image, holds all of the range.
+pub const BAD_RANGE: u32 = 4;
+
 /// The heap refused.
 pub const NO_MEMORY: u32 = 5;
 

@@ -5,6 +5,8 @@ use Rattle.racing_session.specs.declared.progress.Progress.{Progress}
 use Rattle.racing_session.specs.declared.progress.Progress.TheVariants.{Done, More, Asks}
 use Rattle.racing_session.specs.declared.progress.Refusal.{Refusal}
 use Rattle.racing_session.specs.declared.progress.Refusal.TheVariants.{NoRoom, Busy, Idle}
+use Rattle.racing_session.specs.declared.fault.MemoryRefusal.{MemoryRefusal}
+use Rattle.racing_session.specs.declared.fault.MemoryRefusal.TheVariants as kept
 use Rattle.racing_session.specs.declared.fault.RacingFault.{RacingFault}
 use Rattle.racing_session.specs.declared.fault.RacingFault.TheVariants as fault
 
@@ -34,3 +36,10 @@ fault_code (fault.Memory region why) = memory_code why
 fault_code fault.BadDepth = 30
 fault_code fault.BadDisk = 12
 fault_code fault.NoMemory = 5
+
+-- other memory that a guest was refused: a range of a ready queue lies in none of its regions
+abbrev pub kept_code : MemoryRefusal → ℕ
+kept_code kept.Busy = 19
+kept_code kept.BadLoan = 29
+kept_code (kept.Memory region why) = memory_code why
+kept_code kept.QueueOutside = 4

@@ -6,3 +6,4 @@ pub mod Calls
 pub mod Config
 pub mod Create
 pub mod Places
+pub mod Memory

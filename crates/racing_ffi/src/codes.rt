@@ -1,16 +1,17 @@
 //! The number of each answer, which has its name in the header.
 
 ghost use Rattle.std.specs.Prelude.{◌≡◌, ◌≢◌, ◌↔◌, IsErrOf, IsFalse, IsTrue, ◌==◌, ◌||◌};
+ghost use Rattle.racing_session.specs.declared.fault.MemoryRefusal.{MemoryRefusal};
 ghost use Rattle.racing_session.specs.declared.fault.RacingFault.{RacingFault};
 ghost use Rattle.racing_session.specs.declared.progress.Refusal.{Refusal};
-ghost use Rattle.racing_ffi.specs.Codes.{answer_code, fault_code, progress_code, refusal_code};
+ghost use Rattle.racing_ffi.specs.Codes.{answer_code, fault_code, kept_code, progress_code, refusal_code};
 
 use c_values::of_memory_fault;
 pub(crate) use c_values::{
-    BAD_DEPTH, BAD_DEVICE, BAD_LOAN, BAD_OUTLET, BAD_SIZE, BAD_WINDOW, BUSY, DONE, EXTENT_OUTSIDE,
-    HAS_BOARD, IDLE, IO, MORE, NO_BOARD, NO_MEMORY, NO_ROOM,
+    BAD_DEPTH, BAD_DEVICE, BAD_LOAN, BAD_OUTLET, BAD_RANGE, BAD_SIZE, BAD_WINDOW, BUSY, DONE,
+    EXTENT_OUTSIDE, HAS_BOARD, IDLE, IO, MORE, NO_BOARD, NO_MEMORY, NO_ROOM,
 };
-use racing_session::{Progress, RacingFault, Refusal};
+use racing_session::{MemoryRefusal, Progress, RacingFault, Refusal};
 
 /// The number where the host doesn't serve the disk.
 pub(crate) const NOT_HOSTED: u32 = 33;
@@ -64,5 +65,20 @@ pub(crate) fn of_fault(why: RacingFault) -> u32
         RacingFault::BadDepth => BAD_DEPTH,
         RacingFault::BadDisk => EXTENT_OUTSIDE,
         RacingFault::NoMemory => NO_MEMORY,
+    }
+}
+
+/// The number of other memory that a guest was refused.
+pub(crate) fn of_kept(why: MemoryRefusal) -> u32
+    ensures number { result ≡ kept_code why }
+    ensures refused { result ≢ 0 }
+    ensures guest { result ≢ 1 }
+    ensures busy { (result ≡ 19) ↔ (why ≡ MemoryRefusal.Busy) }
+{
+    match why {
+        MemoryRefusal::Busy => BUSY,
+        MemoryRefusal::BadLoan => BAD_LOAN,
+        MemoryRefusal::Memory { region: _, fault } => of_memory_fault(fault),
+        MemoryRefusal::QueueOutside => BAD_RANGE,
     }
 }

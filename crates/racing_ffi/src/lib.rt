@@ -2,7 +2,7 @@
 //!
 //! Each export takes a handle, does what the session behind it does, and answers a number. `handle` is what C holds, `codes` the
 //! numbers, `pending` what waits once a call is answered. `slot` judges how C describes a guest, `config` is what a guest is made
-//! of. `create` makes a guest and destroys it. `registers`, `console`, `disk`, `fault` and `place` have the calls on one, and
+//! of. `create` makes a guest and destroys it. `registers`, `console`, `disk`, `fault`, `place` and `memory` have the calls on one, and
 //! `window` says whose a window of a number is.
 #![tactic(auto)]
 
@@ -13,6 +13,7 @@ mod create;
 mod disk;
 mod fault;
 mod handle;
+mod memory;
 mod pending;
 mod place;
 mod registers;

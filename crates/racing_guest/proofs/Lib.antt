@@ -3,3 +3,4 @@ pub mod Holding
 pub mod Telling
 pub mod Transmitting
 pub mod Routing
+pub mod Fitting

@@ -3,3 +3,4 @@ pub mod Block
 pub mod Console
 pub mod Guest
 pub mod Place
+pub mod Memory

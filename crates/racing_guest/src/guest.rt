@@ -7,6 +7,7 @@ ghost use Rattle.block_device.specs.Extent.{sector_len};
 ghost use Rattle.racing_guest.specs.Guest.{IsServedAgain, IsSoundGuest, WritesGuest, fresh_guest, service_limits, write_waits};
 ghost use Rattle.racing_guest.specs.Reply.{is_busy};
 
+mod memory;
 mod outside;
 mod place;
 mod view;

@@ -1,3 +1,4 @@
 pub mod Lending
 pub mod Calling
 pub mod Owing
+pub mod Moving

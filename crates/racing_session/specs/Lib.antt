@@ -3,3 +3,4 @@ pub mod Judging
 pub mod Answering
 pub mod Session
 pub mod Place
+pub mod Memory

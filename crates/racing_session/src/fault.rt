@@ -1,4 +1,4 @@
-//! Why there is no session.
+//! Why there is no session, and why one keeps its memory.
 
 use guest_memory::MemoryFault;
 use thiserror::Error;
@@ -27,4 +27,21 @@ pub enum RacingFault {
     /// There was no memory for the session.
     #[error("no memory for the session")]
     NoMemory,
+}
+
+/// Other memory that a session was refused. Where several hold, it is the first in this order.
+#[derive(Clone, Copy, Debug, Error, PartialEq, Eq)]
+pub enum MemoryRefusal {
+    /// A queue is due, or an operation of the disk is in flight.
+    #[error("a queue of the guest is due, or its disk is at work")]
+    Busy,
+    /// The lent words aren't one run for each region, as long as it is.
+    #[error("lent words have another number or length than the regions")]
+    BadLoan,
+    /// There is no such memory: the place of the region at fault, 0 where there is none, and why.
+    #[error("the guest's memory: {fault}")]
+    Memory { region: usize, fault: MemoryFault },
+    /// A ready queue doesn't lie in it.
+    #[error("a ready queue of the guest lies outside the memory")]
+    QueueOutside,
 }

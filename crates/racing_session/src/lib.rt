@@ -1,9 +1,9 @@
 //! One guest that runs on, by calls: its devices, its memory, whose words its host lends, and its console's output until it is
 //! taken.
 //!
-//! `session` is the guest, a module for each kind of call: `registers`, `console` and `disk`. `memory` keeps the words of the
-//! guest's regions, and `due` which queues are to be served once more. `spec` says what a session is made of, and `fault` why
-//! there is none. `told` and `progress` say what a call tells, and `laws` what holds of every session.
+//! `session` is the guest, a module for each kind of call: `registers`, `console`, `disk`, `place` and `memory`. Beside it `memory`
+//! keeps the words of the guest's regions, and `due` which queues are to be served once more. `spec` says what a session is made
+//! of, and `fault` why there is none, or no other memory. `told` and `progress` say what a call tells, and `laws` what holds of every session.
 #![tactic(auto)]
 
 mod due;
@@ -18,7 +18,7 @@ mod told;
 pub use block_device::{HostEvent, Operation, OperationKind, Verdict};
 pub use chain::{Budget, Segment};
 pub use due::Due;
-pub use fault::RacingFault;
+pub use fault::{MemoryRefusal, RacingFault};
 pub use guest_memory::{MemoryFault, RegionSpec, Regions};
 pub use laws::{what_is_due_stays, what_the_host_is_told_lies_inside};
 pub use mmio_window::FaultNote;

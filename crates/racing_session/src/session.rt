@@ -7,6 +7,7 @@ ghost use Rattle.racing_session.specs.Session.{new_session, waits_of};
 
 mod console;
 mod disk;
+mod memory;
 mod place;
 mod registers;
 

@@ -3,3 +3,4 @@ pub mod Staying
 pub mod Sizes
 pub mod Standing
 pub mod LeftAlone
+pub mod Fitting

@@ -1,10 +1,11 @@
 /*
  * A guest that runs on, by hand: over words in two regions its driver brings up a disk and a console, writes a sector, puts out a
- * line, reads one that is typed, offers broken chains, and goes on where another device left its queue. Between these each queue has more than a service's budget of chains, and
- * the output more than its room. The host does what the disk is asked for, and prints what each call answers and what then stands in
- * the guest's memory. Both read and write that memory by atomic accesses, as the CPUs of such a guest and its host's threads do.
+ * line, reads one that is typed, offers broken chains, goes on where another device left its queue, and is moved to other memory.
+ * Between these each queue has more than a service's budget of chains, and the output more than its room. The host does what the disk
+ * is asked for, and prints what each call answers and what then stands in the guest's memory. Both read and write that memory by
+ * atomic accesses, as the CPUs of such a guest and its host's threads do.
  *
- * Its heap is open for kalyubos_guest_create and kalyubos_guest_destroy alone, and refuses each block once.
+ * Its heap is open for the calls that make, move and destroy a guest alone, and refuses each block once.
  */
 #include <inttypes.h>
 #include <limits.h>
@@ -29,7 +30,9 @@ enum { MAGIC = 0x000, DEVICE_ID = 0x008, DRIVER_FEATURES = 0x020, DRIVER_FEATURE
        QUEUE_SIZE = 0x038, QUEUE_READY = 0x044, NOTIFY = 0x050, INTERRUPT_STATUS = 0x060, INTERRUPT_ACK = 0x064,
        STATUS = 0x070, QUEUE_DESC = 0x080, QUEUE_DRIVER = 0x090, QUEUE_DEVICE = 0x0a0 };
 
-static uint64_t ram[RAM_LEN / 8], high[HIGH_LEN / 8];
+/* The guest's memory, and other memory that it is moved to. */
+static uint64_t ram[RAM_LEN / 8], high[HIGH_LEN / 8], other_ram[RAM_LEN / 8], other_high[HIGH_LEN / 8];
+static uint64_t *ram_now = ram, *high_now = high;
 static uint8_t disk[SECTORS * SECTOR];
 static struct kalyubos_guest guest;
 static struct kalyubos_pending pending;
@@ -96,6 +99,18 @@ static const char *answer(uint32_t number)
     return text;
 }
 
+/* Gives the guest these regions, over the other memory. */
+static uint32_t move(const char *what, const struct kalyubos_region *regions, size_t regions_len, size_t words_len)
+{
+    struct kalyubos_words words[] = { { other_ram, regions[0].len / 8 }, { other_high, regions[1].len / 8 } };
+    is_open = true;
+    uint32_t number = kalyubos_guest_set_memory(&guest, regions, regions_len, words, words_len);
+    is_open = false;
+    printf("%s: %s\n", what, answer(number));
+    printf("  %s\n", words[0].words == other_ram ? "the words are the host's" : "the words were taken");
+    return number;
+}
+
 static void destroy(void)
 {
     is_open = true;
@@ -108,7 +123,7 @@ static void destroy(void)
 
 static uint8_t *place(uint64_t addr)
 {
-    return addr >= HIGH ? (uint8_t *)high + (addr - HIGH) : (uint8_t *)ram + (addr - RAM);
+    return addr >= HIGH ? (uint8_t *)high_now + (addr - HIGH) : (uint8_t *)ram_now + (addr - RAM);
 }
 
 static void put(uint64_t addr, uint64_t value, unsigned len)
@@ -432,6 +447,7 @@ static void put_out_what_never_fits(void)
     printf("%d bytes into %d: %s\n", LONGER, LONGER - 1, answer(offer(KALYUBOS_CONSOLE, 1, TRANSMIT_QUEUE)));
     show_pending();
     go_on();
+    (void)move("other memory while a queue is due", described().regions, 2, 2);
     put_request(0, FLUSH, 0);
     describe(DISK_QUEUE, 0, RAM + HEADER, 16, NEXT);
     describe(DISK_QUEUE, 1, RAM + REQUEST_STATUS, 1, WRITE);
@@ -565,6 +581,75 @@ static void go_on_at_a_place(void)
     acknowledge(KALYUBOS_BLOCK, "disk");
 }
 
+/* ---- other memory */
+
+/* None of this memory is taken: the disk's queue, which is ready, lies in RAM. */
+static void refuse_to_move(void)
+{
+    struct kalyubos_region nine[9] = { { RAM, RAM_LEN }, { HIGH, HIGH_LEN } };
+    struct kalyubos_region close[] = { { RAM, RAM_LEN }, { RAM + RAM_LEN, HIGH_LEN } };
+    struct kalyubos_region apart[] = { { RAM + DISK_QUEUE + 0x1000, RAM_LEN }, { HIGH, HIGH_LEN } };
+    struct kalyubos_region before[] = { { RAM - RAM_LEN + DISK_QUEUE, RAM_LEN }, { HIGH, HIGH_LEN } };
+    (void)move("words of one region", nine, 2, 1);
+    (void)move("nine regions", nine, 9, 2);
+    (void)move("no region", nine, 0, 0);
+    (void)move("regions without a gap", close, 2, 2);
+    (void)move("regions behind the disk's queue", apart, 2, 2);
+    (void)move("regions before the disk's queue", before, 2, 2);
+    blocks_left = 0;
+    (void)move("a heap without a block", nine, 2, 2);
+    blocks_left = UINT_MAX;
+    show_place(KALYUBOS_BLOCK, 0);
+}
+
+/* What the driver laid out in RAM is copied, and then none of it is left where it was. The second region is shorter than before. */
+static void move_to_other_memory(void)
+{
+    struct kalyubos_region regions[] = { { RAM, RAM_LEN }, { HIGH, HIGH_LEN / 2 } };
+    memcpy(other_ram, ram, sizeof ram);
+    if (move("other memory", regions, 2, 2) != KALYUBOS_DONE)
+        return;
+    ram_now = other_ram;
+    high_now = other_high;
+    memset(ram, UNTOLD, sizeof ram);
+    memset(high, UNTOLD, sizeof high);
+}
+
+/* Reads sector 3 into HIGH, from this place on. */
+static void read_into(uint64_t at)
+{
+    put_request(0, IN, 3);
+    describe(DISK_QUEUE, 0, RAM + HEADER, 16, NEXT);
+    describe(DISK_QUEUE, 1, HIGH + at, SECTOR, NEXT | WRITE);
+    describe(DISK_QUEUE, 2, RAM + REQUEST_STATUS, 1, WRITE);
+    printf("a read: %s\n", answer(offer(KALYUBOS_BLOCK, 0, DISK_QUEUE)));
+}
+
+/* The disk's queue goes on in the other memory, where a buffer that lay in the memory before lies outside. */
+static void go_on_in_other_memory(void)
+{
+    put(RAM + DISK_QUEUE + AVAILABLE + 2, 0, 2);
+    put(RAM + DISK_QUEUE + USED + 2, 0, 2);
+    begin(KALYUBOS_BLOCK, "disk");
+    queue(KALYUBOS_BLOCK, 0, DISK_QUEUE);
+    set(KALYUBOS_BLOCK, STATUS, 15);
+    read_into(0);
+    (void)move("other memory while a read is in flight", described().regions, 2, 2);
+    serve(0);
+    complete(0);
+    refuse_to_move();
+    move_to_other_memory();
+    show_place(KALYUBOS_BLOCK, 0);
+    read_into(SECTOR);
+    serve(0);
+    complete(0);
+    show_used("disk", DISK_QUEUE, 2);
+    printf("disk: status %" PRIu64 ", and the sector begins with \"%.8s\"\n", get(RAM + REQUEST_STATUS, 1), (char *)place(HIGH + SECTOR));
+    printf("the memory before: %#" PRIx64 ", %#" PRIx64 "\n", ram[REQUEST_STATUS / 8], high[SECTOR / 8]);
+    read_into(HIGH_LEN / 2);
+    printf("disk: status %#" PRIx32 "\n", reg(KALYUBOS_BLOCK, STATUS));
+}
+
 /* ---- what is refused */
 
 static void try_config(const char *what, struct kalyubos_slot slot, size_t words_len)
@@ -651,6 +736,7 @@ int main(void)
     make_a_mistake();
     make_another_mistake();
     go_on_at_a_place();
+    go_on_in_other_memory();
     printf("nothing is due: %s\n", answer(kalyubos_guest_go_on(&guest, &pending)));
     printf("hold: %s\n", answer(kalyubos_guest_hold(&guest, &pending)));
     printf("hold again: %s\n", answer(kalyubos_guest_hold(&guest, &pending)));
