@@ -3,7 +3,8 @@
 //!
 //! `session` is the guest, a module for each kind of call: `registers`, `console`, `disk`, `place` and `memory`. Beside it `memory`
 //! keeps the words of the guest's regions, and `due` which queues are to be served once more. `spec` says what a session is made
-//! of, and `fault` why there is none, or no other memory. `told` and `progress` say what a call tells, and `laws` what holds of every session.
+//! of, and `fault` why there is none, or no other memory. `told` and `progress` say what a call tells, and `laws` what holds of
+//! every session.
 #![tactic(auto)]
 
 mod due;

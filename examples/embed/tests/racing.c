@@ -644,7 +644,8 @@ static void go_on_in_other_memory(void)
     serve(0);
     complete(0);
     show_used("disk", DISK_QUEUE, 2);
-    printf("disk: status %" PRIu64 ", and the sector begins with \"%.8s\"\n", get(RAM + REQUEST_STATUS, 1), (char *)place(HIGH + SECTOR));
+    printf("disk: status %" PRIu64 ", and the sector begins with \"%.8s\"\n", get(RAM + REQUEST_STATUS, 1),
+           (char *)place(HIGH + SECTOR));
     printf("the memory before: %#" PRIx64 ", %#" PRIx64 "\n", ram[REQUEST_STATUS / 8], high[SECTOR / 8]);
     read_into(HIGH_LEN / 2);
     printf("disk: status %#" PRIx32 "\n", reg(KALYUBOS_BLOCK, STATUS));
