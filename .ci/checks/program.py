@@ -1,10 +1,15 @@
 """What make check tries on the program and the library, which it builds without a proof: every scenario and row of the matrix,
-traces of guests from seeds, broken texts, the suite in one process, and the hosts in C."""
+traces of guests from seeds, broken texts, the suite in one process, and the hosts in C. A check of them that passed isn't made again while
+it stands on the same: what was built, the compiler, and each file but pages and what a crate is proved and built of."""
+import json
+import re
 import shutil
 import tempfile
+import threading
 
 from .common import COMPILER, TOP, called, script
 from .runner import processors
+import proving
 
 RUN_ON, IN_PROCESS = "crates/conformance/run-on", TOP / "crates/conformance/in-process"
 PROGRAM, LIBRARY = TOP / "out/vreplay-unproved", TOP / "out/libkalyubos-unproved.a"
@@ -59,9 +64,40 @@ def last_line(*words):
     return good, lines[-1:] if good else lines
 
 
-CHECKS = {
-    "program": lambda: built("vreplay"),
-    "library": lambda: built("board_ffi"),
+# What each check stood on when it passed last, and the files on which none stands.
+PASSED, LOCK = TOP / "out/check.passed", threading.Lock()
+ASIDE = re.compile(r"docs/|(.*/)?README\.md$|[^/]*\.md$|crates/\w+/(src|specs|proofs)/")
+
+
+def stands_on(name):
+    """A sum of all that a check of what was built stands on."""
+    listed = called("git", "ls-files", "-co", "--exclude-standard", "-z").stdout.split("\0")
+    files = [TOP / path for path in sorted(listed) if path and not ASIDE.match(path)]
+    tried = PROGRAM if "program" in AFTER[name] else LIBRARY
+    return proving.sum_of([path for path in (tried, *files) if path.is_file()]) + called(COMPILER, "--version").stdout
+
+
+def passed():
+    """What each check stood on when it passed last."""
+    return json.loads(PASSED.read_text(encoding="utf-8")) if PASSED.exists() else {}
+
+
+def unless_passed(name, check):
+    """The check, which isn't made where it passed on the same."""
+    def made():
+        now = stands_on(name)
+        if passed().get(name) == now:
+            return True, ["not made: it passed on what was built, and on the scripts, as they are (rm out/check.passed has all made)"]
+        good, lines = check()
+        if good and now == stands_on(name):
+            with LOCK:
+                PASSED.write_text(json.dumps({**passed(), name: now}), encoding="utf-8")
+        return good, lines
+    return made
+
+
+BUILDS = {"program": lambda: built("vreplay"), "library": lambda: built("board_ffi")}
+TRIED = {
     "scenarios": lambda: counted("--after", "--save", PROGRAM),
     "fuzz": fuzzed,
     "broken": lambda: last_line("tests/program/broken", "--program", PROGRAM),
@@ -70,6 +106,7 @@ CHECKS = {
     "hosts in C": hosts,
     "racing accesses": lambda: last_line("examples/embed/racing-accesses", "--library", LIBRARY),
 }
+CHECKS = BUILDS | {name: unless_passed(name, check) for name, check in TRIED.items()}
 AFTER = {"scenarios": ["program", "matrix"], "fuzz": ["program"], "broken": ["program"], "streams": ["program"],
          "in-process": ["library", "matrix"], "hosts in C": ["library"],
          "racing accesses": ["library"]}
