@@ -219,7 +219,7 @@ def features_of(text, replies):
     if any(slot.fields.get("mode") == "ro" for slot in slots):
         found.add("ro")
     lines = text.split("\n")
-    told = {line: read_memory_line(line) if line.startswith(OF_MEMORY) else read_line(line) for line in set(lines)}
+    told = {line: read_any(line) for line in set(lines)}
     if any(read is WRONG for read in told.values()):
         del lines[next(at for at, line in enumerate(lines) if told[line] is WRONG):]
     events = [line for line in lines if told[line]][:len(replies)]
@@ -241,14 +241,17 @@ class Read(typing.NamedTuple):
 
 # A line with the word of an event and other fields: no feature is read of it and of what is behind it.
 WRONG = Read(frozenset(["wrong"]))
-PLAIN = Read()
-# Lines that ask for no feature, and that are seldom alike.
-OF_MEMORY = ("mr ", "mw ")
+# A write to a register that doesn't speak of features, whatever its value is.
+SILENT = re.compile("w [0-9a-f]+ [bc] (?!0[127])[0-9a-f]{3} [124] [0-9a-f]+")
 
 
-def read_memory_line(line):
-    """As read_line, without a look at the fields."""
-    return PLAIN if line.count(" ") == 3 else WRONG
+def read_any(line):
+    """What read_line reads, of most lines by their word and the number of their fields."""
+    fixed = FIXED.get(line.partition(" ")[0])
+    if fixed:
+        count, read = fixed
+        return read if line.count(" ") == count else WRONG
+    return read_line(line.rpartition(" ")[0] + " 0" if SILENT.fullmatch(line) else line)
 
 
 @functools.lru_cache(maxsize=1 << 14)
@@ -303,6 +306,11 @@ def features_in(event, reply, windows):
     if event.fields["width"] != "4":
         return set()
     return features_at(*access_of(event), reply, windows)
+
+
+# The lines whose features follow from their word: how many fields they have, and what is read of them.
+FIXED = {word: (len(kinds), Read(frozenset(features_in(Event([word, *kinds]), "", {})))) for word, kinds in trace_text.LINES.items()
+         if word in trace_text.EVENTS - {"r", "w", "plug"}}
 
 
 def access_of(event):
