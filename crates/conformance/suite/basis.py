@@ -35,16 +35,16 @@ def rows(heading):
     return [(first.strip(), second.strip()) for first, second in cells[1:]]
 
 
-def load(suite):
+def load(suite, is_whole=True):
     """The basis of each scenario, by name."""
-    found, wrong = judged(suite)
+    found, wrong = judged(suite, is_whole)
     if wrong:
         raise Broken("STANDARD.md: " + wrong[0])
     return found
 
 
-def judged(suite):
-    """The basis of each scenario, and what is wrong with the page: a name goes before a pattern, and either is one."""
+def judged(suite, is_whole=True):
+    """The basis of each scenario, and what is wrong with the page: a name goes before a pattern, and either is one of a whole suite."""
     names, patterns, wrong = tabled()
     found, used = {}, set()
     subjects = {scenario.subject for scenario in suite}
@@ -58,9 +58,16 @@ def judged(suite):
             found[scenario.name] = names.get(scenario.name) or fitting[0][1]
             if scenario.name not in names and len({basis for _, basis in fitting}) > 1:
                 wrong.append(f"{scenario.name} fits {fitting[0][0]} and {fitting[1][0]}")
-    wrong += [f"{name} is no scenario" for name in names if name not in found]
-    wrong += [f"no scenario fits {word}" for word, _ in patterns if word not in used]
+    if is_whole:
+        wrong += [f"{name} is no scenario" for name in names if name not in found]
+        wrong += [f"no scenario fits {word}" for word, _ in patterns if word not in used]
     return found, wrong
+
+
+def subjects():
+    """The subjects that may have a scenario of the standard."""
+    names, patterns, _ = tabled()
+    return {word.partition("/")[0] for word, basis in [*names.items(), *patterns] if basis.is_standard}
 
 
 def tabled():

@@ -101,9 +101,9 @@ def blocks(results):
             yield f"  {len(others)} more differ{'s' if len(others) == 1 else ''} alike: {names}"
 
 
-def reasons(results, others=0):
-    """Why scenarios were left out, and how many by each reason; `others` weren't asked for, and not looked at."""
-    found = {NOT_ASKED: others} if others else {}
+def reasons(results, others):
+    """Why scenarios were left out, and how many by each reason; `others` has those that weren't looked at."""
+    found = dict(others)
     for one in results:
         if not one.ran:
             found[one.left_out] = found.get(one.left_out, 0) + 1
