@@ -18,7 +18,8 @@ use crate::transmit::TransmitHandler;
 use chain::{Budget, Chain, Progress};
 use chain_handler::Standing;
 use guest_memory::GuestMemory;
-use mmio_window::{Stage, Window, serve_piece};
+use mmio_window::{Stage, Window};
+use served_memory::{Limits, Served};
 use std::alloc::Allocator;
 
 impl<A: Allocator> ConsoleDevice<A> {
@@ -54,8 +55,30 @@ impl<A: Allocator> ConsoleDevice<A> {
         ensures range { SameRange mem.old mem.new }
         ensures sound { IsSound mem.new window.new }
     {
+        let limits = Limits { budget, rounds: 1 };
+        self.serve_receive_in(mem, window, stage, limits, room, &mut ())
+    }
+
+    /// The same over any memory, within limits. `chain` and `room` are as [`Served::serve`] takes them.
+    #[inline(always)]
+    pub fn serve_receive_in<G: Served>(
+        &mut self,
+        mem: &mut G,
+        window: &mut Window,
+        stage: Stage,
+        limits: Limits,
+        chain: &mut Chain,
+        room: &mut G::Room,
+    ) -> Progress
+        requires sound { IsSound (G.world.last (G.seen mem.old)) window.old }
+        ensures served { G.world.ServesTo receive stage limits 0 (queue_at 0 window.old) result (G.seen mem.old)
+            (G.seen mem.new) window.old window.new self.old.pending self.new.pending }
+        ensures size { self.new ≡ record self.old { pending = self.new.pending } }
+        ensures range { SameRange (G.world.last (G.seen mem.old)) (G.world.last (G.seen mem.new)) }
+        ensures sound { IsSound (G.world.last (G.seen mem.new)) window.new }
+    {
         let device = &mut Standing(ReceiveHandler);
-        match serve_piece(device, self, RECEIVEQ, mem, window, stage, budget, room) {
+        match mem.serve(device, self, RECEIVEQ, window, stage, limits, chain, room) {
             Ok(progress) => progress,
             Err(_) => unreachable!(),
         }
@@ -113,7 +136,35 @@ impl<A: Allocator> ConsoleDevice<A> {
         ensures range { SameRange mem.old mem.new }
         ensures sound { IsSound mem.new window.new }
     {
+        let limits = Limits { budget, rounds: 1 };
+        self.serve_transmit_in(mem, window, out, stage, limits, room, &mut ())
+    }
+
+    /// The same over any memory, within limits. `chain` and `room` are as [`Served::serve`] takes them.
+    #[inline(always)]
+    pub fn serve_transmit_in<G: Served, O: Outlet>(
+        &mut self,
+        mem: &mut G,
+        window: &mut Window,
+        out: &mut O,
+        stage: Stage,
+        limits: Limits,
+        chain: &mut Chain,
+        room: &mut G::Room,
+    ) -> Result<Progress, NoMemory>
+        requires sound { IsSound (G.world.last (G.seen mem.old)) window.old }
+        ensures ok { IfOk result (λ progress. G.world.ServesTo (transmit_within (O.limit out.old)) stage limits 1
+            (queue_at 1 window.old) progress (G.seen mem.old) (G.seen mem.new) window.old window.new
+            (O.bytes out.old) (O.bytes out.new)) }
+        ensures no_memory { OnErr result (G.world.RefusedTo (transmit_within (O.limit out.old)) stage limits 1
+            (queue_at 1 window.old) (G.seen mem.old) (G.seen mem.new) window.old window.new
+            (O.bytes out.old) (O.bytes out.new)) }
+        ensures limit { O.limit out.new ≡ O.limit out.old }
+        ensures same { self.new ≡ self.old }
+        ensures range { SameRange (G.world.last (G.seen mem.old)) (G.world.last (G.seen mem.new)) }
+        ensures sound { IsSound (G.world.last (G.seen mem.new)) window.new }
+    {
         let device = &mut Standing(TransmitHandler);
-        serve_piece(device, out, TRANSMITQ, mem, window, stage, budget, room)
+        mem.serve(device, out, TRANSMITQ, window, stage, limits, chain, room)
     }
 }

@@ -2,7 +2,6 @@
 
 ghost use Rattle.std.specs.Prelude.{◌≡◌};
 ghost use Rattle.guest_memory.specs.Memory.{SameRange};
-ghost use Rattle.mmio_window.specs.Pieces.{ServesTo};
 ghost use Rattle.mmio_window.specs.Serving.{IsNotified};
 ghost use Rattle.mmio_window.specs.Soundness.{IsSound};
 ghost use Rattle.mmio_window.specs.Window.{queue_at};
@@ -14,7 +13,8 @@ use crate::requestq::Requestq;
 use chain::{Budget, Chain, Progress};
 use chain_handler::Standing;
 use guest_memory::GuestMemory;
-use mmio_window::{Stage, Window, serve_piece};
+use mmio_window::{Stage, Window};
+use served_memory::{Limits, Served};
 use std::alloc::Allocator;
 
 /// The one queue (5.4.2).
@@ -30,35 +30,41 @@ impl EntropyDevice {
         ensures range { SameRange mem.old mem.new }
         ensures sound { IsSound mem.new window.new }
     {
-        let mut room = Chain::new();
-        let _ = self.serve_piece(mem, window, Stage::First, Budget::UNLIMITED, &mut room);
+        let limits = Limits {
+            budget: Budget::UNLIMITED,
+            rounds: 1,
+        };
+        let mut chain = Chain::new();
+        let _ = self.serve_in(mem, window, Stage::First, limits, &mut chain, &mut ());
     }
 
-    /// The same within a budget: where that is spent, the pool has a byte and one more chain is on offer, the service
-    /// pauses, and goes on with its next piece. In a pause its queue stands open, and no other call may be made with the
-    /// window. `room` is where the chains stand, one after another: what it holds before is of no account.
-    pub fn serve_piece<M: Allocator>(
+    /// The same over any memory, within limits: where those are met, the pool has a byte and one more chain is on offer, the
+    /// service goes on with its next piece. Until then no other call may be made with the window of a guest that stands still, whose
+    /// queue stands open. `chain` and `room` are as [`Served::serve`] takes them.
+    #[inline(always)]
+    pub fn serve_in<G: Served>(
         &mut self,
-        mem: &mut GuestMemory<M>,
+        mem: &mut G,
         window: &mut Window,
         stage: Stage,
-        budget: Budget,
-        room: &mut Chain,
+        limits: Limits,
+        chain: &mut Chain,
+        room: &mut G::Room,
     ) -> Progress
-        requires sound { IsSound mem.old window.old }
-        ensures served { ServesTo stage entropy budget 0 (queue_at 0 window.old) result mem.old mem.new
-            window.old window.new self.old self.new }
-        ensures range { SameRange mem.old mem.new }
-        ensures sound { IsSound mem.new window.new }
+        requires sound { IsSound (G.world.last (G.seen mem.old)) window.old }
+        ensures served { G.world.ServesTo entropy stage limits 0 (queue_at 0 window.old) result (G.seen mem.old)
+            (G.seen mem.new) window.old window.new self.old self.new }
+        ensures range { SameRange (G.world.last (G.seen mem.old)) (G.world.last (G.seen mem.new)) }
+        ensures sound { IsSound (G.world.last (G.seen mem.new)) window.new }
     {
         let device = &mut Standing(Requestq);
-        match serve_piece(device, self, REQUESTQ, mem, window, stage, budget, room) {
+        match mem.serve(device, self, REQUESTQ, window, stage, limits, chain, room) {
             Ok(progress) => progress,
             Err(_) => unreachable!(),
         }
     }
 
-    /// Whether the driver waits for bytes: the pool is empty, and a chain is on offer. `room` is as in `serve_piece`.
+    /// Whether the driver waits for bytes: the pool is empty, and a chain is on offer. `room` is where that chain is put.
     pub fn starved<M: Allocator>(
         &self,
         mem: &GuestMemory<M>,

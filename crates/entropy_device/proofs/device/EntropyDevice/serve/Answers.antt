@@ -6,7 +6,7 @@ use Rattle.entropy_device.proofs.device.EntropyDevice.serve.Goals as goal
 
 pub returns-clause-served : goal.returns-clause-served
 returns-clause-served g c =
-    whole entropy _ 0 (queue_at 0 c.args.window.now) c.serve_piece.result c.args.mem.now
-    c.serve_piece.new.mem c.args.window.now c.serve_piece.new.window
-    c.args.self.now c.serve_piece.new.self refl refl
-    c.serve_piece.ensures.served
+    whole entropy _ 0 (queue_at 0 c.args.window.now) c.serve_in.result c.args.mem.now
+    c.serve_in.new.mem c.args.window.now c.serve_in.new.window
+    c.args.self.now c.serve_in.new.self refl refl
+    c.serve_in.ensures.served
