@@ -1,4 +1,5 @@
 pub mod Services
+pub mod Worlds
 pub mod Cards
 pub mod One
 pub mod OnePiece

@@ -24,11 +24,11 @@ use Rattle.network_device.specs.Receiving.{ReceivesTo}
 use Rattle.network_device.proofs.Answering.{receive_once, transmit_once}
 use Rattle.hosted_disk.specs.Disk.{HostedDisk, ServesDisk}
 use Rattle.hosted_disk.proofs.One.{serve_disk}
-use Rattle.device_list.specs.Card.{Card, CardServesTo, ReceivesFramesTo, TransmitsFramesTo, card_limits}
+use Rattle.device_list.specs.Card.{Card, CardServesTo, ReceivesFramesTo, card_limits}
 use Rattle.device_list.specs.Device.{DeviceServesTo, DeviceState}
 use Rattle.device_list.specs.List.{At, DevicesServeTo, IsNoneServed, ServesAny}
 use Rattle.device_list.specs.Model.{ModelServesTo, ModelState, Entropy, Network as NetworkModel, Block as BlockModel, Console as ConsoleModel, Image as ImageModel, ServesAs}
-use Rattle.device_list.specs.Terminal.{ReceivesInputTo, Terminal, TerminalServesTo, TransmitsOutputTo, terminal_limit}
+use Rattle.device_list.specs.Terminal.{Terminal, TerminalServesTo, terminal_limit}
 use Rattle.device_list.proofs.Cards.{receive_decides, transmit_decides}
 use Rattle.device_list.proofs.Services.{answers, piece_fits}
 

@@ -9,13 +9,14 @@ use Rattle.chain.specs.declared.budget.Progress.TheVariants.{Done}
 use Rattle.chain.specs.Service.{Ending, Refused}
 use Rattle.mmio_window.specs.declared.stage.Stage.{Stage}
 use Rattle.mmio_window.specs.Offering.{is_offered}
-use Rattle.mmio_window.specs.Pieces.{ServesTo}
 use Rattle.mmio_window.specs.Serving.{IsNotified, NothingHappens, Notified}
 use Rattle.mmio_window.specs.Window.{WindowState, queue_at}
 use Rattle.network_device.specs.declared.limits.Limits.{Limits}
 use Rattle.network_device.specs.Device.{Passing, emptied, passing, receive, transmit}
 use Rattle.network_device.specs.Network.{Network, refusal}
-use Rattle.network_device.specs.Receiving.{ReceivesTo}
+use Rattle.network_device.specs.Receiving.{ReceivesIn}
+use Rattle.racing_service.specs.declared.service.Limits.{Limits as ServiceLimits}
+use Rattle.served_memory.specs.World.{World, one_round, standing}
 use Rattle.device_list.specs.declared.refusal.ReceiveRefusal.{ReceiveRefusal}
 use Rattle.device_list.specs.declared.refusal.ReceiveRefusal.TheVariants.{NoDevice, Frame}
 
@@ -101,28 +102,36 @@ ServesCard card (suc (suc q)) m m' w w' card' = NothingHappens m m' w w' card ca
 -- ---- their pieces
 
 -- A piece of a service of the receive queue: waiting frames go into the chains on offer, and more of it may be to come.
-pub record ReceivesFramesTo (stage : Stage) (budget : Budget) (progress : Progress) (card : Card) (m m' : Memory)
-    (w w' : WindowState) (card' : Card) : Type 0 where
+pub record ReceivesFramesIn (world : World) (stage : Stage) (limits : ServiceLimits) (progress : Progress) (card : Card)
+    (m m' : world.Seen) (w w' : WindowState) (card' : Card) : Type 0 where
   pub left : Passing
-  pub served : ReceivesTo stage budget (queue_at 0 w) progress m m' w w' card.network.waiting left
+  pub served : ReceivesIn world stage limits (queue_at 0 w) progress m m' w w' card.network.waiting left
   pub is : card' ≡ record card { network = record card.network { waiting = left } }
 
 -- and one of the transmit queue
-pub record TransmitsFramesTo (stage : Stage) (budget : Budget) (progress : Progress) (card : Card) (m m' : Memory)
-    (w w' : WindowState) (card' : Card) : Type 0 where
+pub record TransmitsFramesIn (world : World) (stage : Stage) (limits : ServiceLimits) (progress : Progress) (card : Card)
+    (m m' : world.Seen) (w w' : WindowState) (card' : Card) : Type 0 where
   pub out : Passing
-  pub served : ServesTo stage (transmit card_limits) budget 1 (queue_at 1 w) progress m m' w w'
+  pub served : world.DoneTo (transmit card_limits) stage limits 1 (queue_at 1 w) progress m m' w w'
       (passing card.sent card.network.dropped) out
   pub is : card' ≡ record { network = record card.network { dropped = out.dropped }; sent = out.frames }
 
+abbrev pub CardServesIn : (world : World) → Stage → ServiceLimits → Progress → Card → ℕ → world.Seen → world.Seen
+    → WindowState → WindowState → Card → Type 0
+CardServesIn world stage limits progress card zero m m' w w' card' =
+    ReceivesFramesIn world stage limits progress card m m' w w' card'
+CardServesIn world stage limits progress card (suc zero) m m' w w' card' =
+    TransmitsFramesIn world stage limits progress card m m' w w' card'
+CardServesIn world stage limits progress card (suc (suc q)) m m' w w' card' = (progress ≡ Done)
+    × world.NothingHappens m m' w w' card card'
+
+-- the same of a guest that stands still
+abbrev pub ReceivesFramesTo : Stage → Budget → Progress → Card → Memory → Memory → WindowState → WindowState → Card → Type 0
+ReceivesFramesTo stage budget = ReceivesFramesIn standing stage (one_round budget)
+
 abbrev pub CardServesTo : Stage → Budget → Progress → Card → ℕ → Memory → Memory → WindowState → WindowState → Card
     → Type 0
-CardServesTo stage budget progress card zero m m' w w' card' =
-    ReceivesFramesTo stage budget progress card m m' w w' card'
-CardServesTo stage budget progress card (suc zero) m m' w w' card' =
-    TransmitsFramesTo stage budget progress card m m' w w' card'
-CardServesTo stage budget progress card (suc (suc q)) m m' w w' card' = (progress ≡ Done)
-    × NothingHappens m m' w w' card card'
+CardServesTo stage budget = CardServesIn standing stage (one_round budget)
 
 -- whether a chain is on offer in the receive queue and no frame waits for it
 abbrev pub is_card_starving : Card → Memory → WindowState → Bool

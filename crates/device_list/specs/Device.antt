@@ -15,7 +15,9 @@ use Rattle.device_list.specs.Card.{with_frame, with_link}
 use Rattle.block_device.specs.declared.operation.HostEvent.{HostEvent}
 use Rattle.hosted_disk.specs.Disk.{HostedDisk}
 use Rattle.hosted_disk.specs.Told.{DoesAsTold}
-use Rattle.device_list.specs.Model.{ModelState, Block, IsHeld, ModelServesTo, Serves, config_of, configured, features_of, fresh_model, kind_of, sent_of, supplied_model, taken_of, with_card, with_terminal, without_sent}
+use Rattle.racing_service.specs.declared.service.Limits.{Limits}
+use Rattle.served_memory.specs.World.{World}
+use Rattle.device_list.specs.Model.{ModelState, Block, IsHeld, ModelServesIn, ModelServesTo, Serves, config_of, configured, features_of, fresh_model, kind_of, sent_of, supplied_model, taken_of, with_card, with_terminal, without_sent}
 use Rattle.device_list.specs.Terminal.{with_size}
 
 -- a device: its window, and what stands behind it
@@ -50,6 +52,12 @@ ServesDevice q m m' d d' = Serves d.model q m m' d.window d'.window d'.model
 abbrev pub DeviceServesTo : Stage → Budget → Progress → ℕ → Memory → Memory → DeviceState → DeviceState → Type 0
 DeviceServesTo stage budget progress q m m' d d' =
     ModelServesTo stage budget progress d.model q m m' d.window d'.window d'.model
+
+-- or one over any memory
+abbrev pub DeviceServesIn : (world : World) → Stage → Limits → Progress → ℕ → world.Seen → world.Seen → DeviceState
+    → DeviceState → Type 0
+DeviceServesIn world stage limits progress q m m' d d' =
+    ModelServesIn world stage limits progress d.model q m m' d.window d'.window d'.model
 
 -- the queue that a write of its window notifies, if it does
 abbrev pub notified_by : Action → Option ℕ

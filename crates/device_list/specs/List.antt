@@ -17,8 +17,10 @@ use Rattle.device_list.specs.declared.spec.DeviceSpec.TheVariants as spec
 use Rattle.block_device.specs.declared.device.BlockDevice.{BlockDevice}
 use Rattle.block_device.specs.declared.extent.Extent.{Extent}
 use Rattle.device_list.specs.Card.{Card}
-use Rattle.device_list.specs.Device.{DeviceServesTo, DeviceState, IsSoundDevice, has_more_sent, notified_by}
+use Rattle.device_list.specs.Device.{DeviceServesIn, DeviceServesTo, DeviceState, IsSoundDevice, has_more_sent, notified_by}
 use Rattle.hosted_disk.specs.Disk.{HostedDisk}
+use Rattle.racing_service.specs.declared.service.Limits.{Limits}
+use Rattle.served_memory.specs.World.{World}
 use Rattle.device_list.specs.Model.{card_of, disk_of, has_bad_disk, has_bad_mtu, image_of, is_at_work, is_starving, must_wait, outgoing_of, terminal_of}
 use Rattle.device_list.specs.Terminal.{Terminal}
 
@@ -27,7 +29,7 @@ abbrev pub AreSoundDevices : Memory → List DeviceState → Type 0
 AreSoundDevices m devices = All (IsSoundDevice m) devices
 
 -- Device n is there, and it and the memory change so; the other devices stay.
-pub record At (Changes : Memory → Memory → DeviceState → DeviceState → Type 0) (n : ℕ) (m m' : Memory)
+pub record At {Seen : Type 0} (Changes : Seen → Seen → DeviceState → DeviceState → Type 0) (n : ℕ) (m m' : Seen)
     (old new : List DeviceState) : Type 0 where
   pub before : DeviceState
   pub after : DeviceState
@@ -40,7 +42,7 @@ abbrev pub changed_at : (DeviceState → DeviceState) → ℕ → List DeviceSta
 changed_at change n devices = option_map_or (λ d. slice_set devices n (change d)) (slice_get devices n) devices
 
 -- The device isn't there: nothing is served.
-pub record IsNoneServed (progress : Progress) (m m' : Memory) (old new : List DeviceState) : Type 0 where
+pub record IsNoneServed {Seen : Type 0} (progress : Progress) (m m' : Seen) (old new : List DeviceState) : Type 0 where
   pub done : progress ≡ Done
   pub memory : m' ≡ m
   pub devices : new ≡ old
@@ -55,6 +57,18 @@ abbrev pub DevicesServeTo : Stage → Budget → Progress → ℕ → ℕ → Me
     → List DeviceState → Type 0
 DevicesServeTo stage budget progress n q m m' old new =
     ServesAny (slice_get old n) stage budget progress n q m m' old new
+
+-- and over any memory, within limits
+abbrev pub ServesAnyIn : (world : World) → Option DeviceState → Stage → Limits → Progress → ℕ → ℕ → world.Seen → world.Seen
+    → List DeviceState → List DeviceState → Type 0
+ServesAnyIn world None stage limits progress n q m m' old new = IsNoneServed progress m m' old new
+ServesAnyIn world (Some d) stage limits progress n q m m' old new =
+    At (DeviceServesIn world stage limits progress q) n m m' old new
+
+abbrev pub DevicesServeIn : (world : World) → Stage → Limits → Progress → ℕ → ℕ → world.Seen → world.Seen
+    → List DeviceState → List DeviceState → Type 0
+DevicesServeIn world stage limits progress n q m m' old new =
+    ServesAnyIn world (slice_get old n) stage limits progress n q m m' old new
 
 -- the network card of this number, if there is one
 abbrev pub card_at : ℕ → List DeviceState → Option Card

@@ -8,10 +8,11 @@ use Rattle.chain.specs.declared.budget.Progress.TheVariants.{Done}
 use Rattle.mmio_window.specs.declared.device_kind.DeviceKind.{DeviceKind}
 use Rattle.mmio_window.specs.declared.device_kind.DeviceKind.TheVariants as kind
 use Rattle.mmio_window.specs.declared.stage.Stage.{Stage}
-use Rattle.mmio_window.specs.Pieces.{ServesTo}
 use Rattle.mmio_window.specs.Serving.{IsNotified, NothingHappens}
 use Rattle.mmio_window.specs.Window.{WindowState, queue_at}
 use Rattle.negotiation.specs.Features.{device_features}
+use Rattle.racing_service.specs.declared.service.Limits.{Limits}
+use Rattle.served_memory.specs.World.{World, one_round, standing}
 use Rattle.entropy_device.specs.Device.{entropy}
 use Rattle.entropy_device.specs.Pool.{fitting, supplied}
 use Rattle.entropy_device.specs.Waiting.{is_starved}
@@ -27,8 +28,8 @@ use Rattle.device_list.specs.declared.model.DeviceModel.{DeviceModel}
 use Rattle.device_list.specs.declared.model.DeviceModel.TheVariants as model
 use Rattle.device_list.specs.declared.spec.DeviceSpec.{DeviceSpec}
 use Rattle.device_list.specs.declared.spec.DeviceSpec.TheVariants as spec
-use Rattle.device_list.specs.Card.{Card, CardServesTo, ServesCard, fresh_card, is_card_starving, oldest_of, without_oldest}
-use Rattle.device_list.specs.Terminal.{Terminal, TerminalServesTo, ServesTerminal, fresh_terminal, is_terminal_starving, output_of, terminal_configured, with_typed, without_output}
+use Rattle.device_list.specs.Card.{Card, CardServesIn, ServesCard, fresh_card, is_card_starving, oldest_of, without_oldest}
+use Rattle.device_list.specs.Terminal.{Terminal, TerminalServesIn, ServesTerminal, fresh_terminal, is_terminal_starving, output_of, terminal_configured, with_typed, without_output}
 
 -- An entropy device with its pool, a network card, a disk that the host serves, a console, or a disk over the image, whose
 -- extent numbers the slot's spare sectors.
@@ -113,28 +114,35 @@ Serves (Console terminal) q m m' w w' model' = ServesAs Console (ServesTerminal 
 Serves (Image disk) q m m' w w' model' = NothingHappens m m' w w' (Image disk) model'
 
 -- a piece of the filling of chains
-pub record FillsChainsTo (stage : Stage) (budget : Budget) (progress : Progress) (pool : List ℕ) (m m' : Memory)
-    (w w' : WindowState) (model' : ModelState) : Type 0 where
+pub record FillsChainsIn (world : World) (stage : Stage) (limits : Limits) (progress : Progress) (pool : List ℕ)
+    (m m' : world.Seen) (w w' : WindowState) (model' : ModelState) : Type 0 where
   pub left : List ℕ
-  pub served : ServesTo stage entropy budget 0 (queue_at 0 w) progress m m' w w' pool left
+  pub served : world.ServesTo entropy stage limits 0 (queue_at 0 w) progress m m' w w' pool left
   pub is : model' ≡ Entropy left
 
--- A piece of a device's service of its queue of this number, within a budget, and whether more is to come. A look of a
--- disk that the host serves is never cut.
+-- A piece of a device's service of its queue of this number, within limits, and whether more is to come. A disk isn't served so.
+abbrev pub ModelServesIn : (world : World) → Stage → Limits → Progress → ModelState → ℕ → world.Seen → world.Seen
+    → WindowState → WindowState → ModelState → Type 0
+ModelServesIn world stage limits progress (Entropy pool) zero m m' w w' model' =
+    FillsChainsIn world stage limits progress pool m m' w w' model'
+ModelServesIn world stage limits progress (Entropy pool) (suc q) m m' w w' model' = (progress ≡ Done)
+    × world.NothingHappens m m' w w' (Entropy pool) model'
+ModelServesIn world stage limits progress (Network card) q m m' w w' model' =
+    ServesAs Network (CardServesIn world stage limits progress card q m m' w w') model'
+ModelServesIn world stage limits progress (Block disk) q m m' w w' model' = (progress ≡ Done)
+    × world.NothingHappens m m' w w' (Block disk) model'
+ModelServesIn world stage limits progress (Console terminal) q m m' w w' model' =
+    ServesAs Console (TerminalServesIn world stage limits progress terminal q m m' w w') model'
+ModelServesIn world stage limits progress (Image disk) q m m' w w' model' = (progress ≡ Done)
+    × world.NothingHappens m m' w w' (Image disk) model'
+
+-- The same of a guest that stands still, within a budget: it has disks that their host serves. A look of one is never cut.
 abbrev pub ModelServesTo : Stage → Budget → Progress → ModelState → ℕ → Memory → Memory → WindowState → WindowState
     → ModelState → Type 0
-ModelServesTo stage budget progress (Entropy pool) zero m m' w w' model' =
-    FillsChainsTo stage budget progress pool m m' w w' model'
-ModelServesTo stage budget progress (Entropy pool) (suc q) m m' w w' model' = (progress ≡ Done)
-    × NothingHappens m m' w w' (Entropy pool) model'
-ModelServesTo stage budget progress (Network card) q m m' w w' model' =
-    ServesAs Network (CardServesTo stage budget progress card q m m' w w') model'
 ModelServesTo stage budget progress (Block disk) q m m' w w' model' = (progress ≡ Done)
     × ServesAs Block (ServesDisk disk q m m' w w') model'
-ModelServesTo stage budget progress (Console terminal) q m m' w w' model' =
-    ServesAs Console (TerminalServesTo stage budget progress terminal q m m' w w') model'
-ModelServesTo stage budget progress (Image disk) q m m' w w' model' = (progress ≡ Done)
-    × NothingHappens m m' w w' (Image disk) model'
+ModelServesTo stage budget progress model q m m' w w' model' =
+    ModelServesIn standing stage (one_round budget) progress model q m m' w w' model'
 
 -- The device once this value was written at this offset of its window's configuration: a console may take it.
 abbrev pub configured : ℕ → ℕ → ModelState → ModelState

@@ -6,13 +6,14 @@ use Rattle.chain.specs.declared.budget.Progress.{Progress}
 use Rattle.chain.specs.declared.budget.Progress.TheVariants.{Done}
 use Rattle.mmio_window.specs.declared.stage.Stage.{Stage}
 use Rattle.mmio_window.specs.Offering.{is_offered}
-use Rattle.mmio_window.specs.Pieces.{ServesTo}
 use Rattle.mmio_window.specs.Serving.{IsNotified, NothingHappens}
 use Rattle.mmio_window.specs.Window.{WindowState, queue_at}
 use Rattle.console_device.specs.Config.{emergency_write}
 use Rattle.console_device.specs.Console.{Console}
 use Rattle.console_device.specs.Device.{receive, transmit_within}
 use Rattle.console_device.specs.Input.{fitting}
+use Rattle.racing_service.specs.declared.service.Limits.{Limits}
+use Rattle.served_memory.specs.World.{World, one_round, standing}
 
 -- the device, and the output that waits for the host, the first bytes first
 pub record Terminal : Type 0 where
@@ -90,28 +91,33 @@ ServesTerminal terminal (suc (suc q)) m m' w w' terminal' = NothingHappens m m' 
 -- ---- their pieces
 
 -- A piece of a service of the receive queue: pending input goes into the chains on offer, and more of it may be to come.
-pub record ReceivesInputTo (stage : Stage) (budget : Budget) (progress : Progress) (terminal : Terminal) (m m' : Memory)
-    (w w' : WindowState) (terminal' : Terminal) : Type 0 where
+pub record ReceivesInputIn (world : World) (stage : Stage) (limits : Limits) (progress : Progress) (terminal : Terminal)
+    (m m' : world.Seen) (w w' : WindowState) (terminal' : Terminal) : Type 0 where
   pub left : List ℕ
-  pub served : ServesTo stage receive budget 0 (queue_at 0 w) progress m m' w w' terminal.console.pending left
+  pub served : world.ServesTo receive stage limits 0 (queue_at 0 w) progress m m' w w' terminal.console.pending left
   pub is : terminal' ≡ record terminal { console = record terminal.console { pending = left } }
 
 -- and one of the transmit queue
-pub record TransmitsOutputTo (stage : Stage) (budget : Budget) (progress : Progress) (terminal : Terminal)
-    (m m' : Memory) (w w' : WindowState) (terminal' : Terminal) : Type 0 where
+pub record TransmitsOutputIn (world : World) (stage : Stage) (limits : Limits) (progress : Progress) (terminal : Terminal)
+    (m m' : world.Seen) (w w' : WindowState) (terminal' : Terminal) : Type 0 where
   pub out : List ℕ
-  pub served : ServesTo stage (transmit_within (Some terminal_limit)) budget 1 (queue_at 1 w) progress m m' w w'
+  pub served : world.DoneTo (transmit_within (Some terminal_limit)) stage limits 1 (queue_at 1 w) progress m m' w w'
       terminal.waiting out
   pub is : terminal' ≡ record terminal { waiting = out }
 
+abbrev pub TerminalServesIn : (world : World) → Stage → Limits → Progress → Terminal → ℕ → world.Seen → world.Seen
+    → WindowState → WindowState → Terminal → Type 0
+TerminalServesIn world stage limits progress terminal zero m m' w w' terminal' =
+    ReceivesInputIn world stage limits progress terminal m m' w w' terminal'
+TerminalServesIn world stage limits progress terminal (suc zero) m m' w w' terminal' =
+    TransmitsOutputIn world stage limits progress terminal m m' w w' terminal'
+TerminalServesIn world stage limits progress terminal (suc (suc q)) m m' w w' terminal' = (progress ≡ Done)
+    × world.NothingHappens m m' w w' terminal terminal'
+
+-- the same of a guest that stands still
 abbrev pub TerminalServesTo : Stage → Budget → Progress → Terminal → ℕ → Memory → Memory → WindowState → WindowState
     → Terminal → Type 0
-TerminalServesTo stage budget progress terminal zero m m' w w' terminal' =
-    ReceivesInputTo stage budget progress terminal m m' w w' terminal'
-TerminalServesTo stage budget progress terminal (suc zero) m m' w w' terminal' =
-    TransmitsOutputTo stage budget progress terminal m m' w w' terminal'
-TerminalServesTo stage budget progress terminal (suc (suc q)) m m' w w' terminal' = (progress ≡ Done)
-    × NothingHappens m m' w w' terminal terminal'
+TerminalServesTo stage budget = TerminalServesIn standing stage (one_round budget)
 
 -- whether a chain is on offer in the receive queue and no input is pending for it
 abbrev pub is_terminal_starving : Terminal → Memory → WindowState → Bool

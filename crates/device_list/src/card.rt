@@ -6,11 +6,11 @@ ghost use Rattle.guest_memory.specs.Memory.{SameRange};
 ghost use Rattle.mmio_window.specs.Soundness.{IsSound};
 ghost use Rattle.network_device.specs.Config.{config_of};
 ghost use Rattle.network_device.specs.Network.{refusal};
-ghost use Rattle.device_list.specs.Card.{CardServesTo, fresh_card, is_card_starving, oldest_of, with_frame, with_link, without_oldest};
+ghost use Rattle.device_list.specs.Card.{CardServesIn, fresh_card, is_card_starving, oldest_of, with_frame, with_link, without_oldest};
 
 mod saved;
 
-use chain::{Budget, Chain, Progress};
+use chain::{Chain, Progress};
 use guest_memory::GuestMemory;
 use mmio_window::{CONFIGURATION_LEN, Stage, Window};
 use network_device::{
@@ -18,6 +18,7 @@ use network_device::{
     RECEIVEQ, TRANSMITQ,
 };
 pub(crate) use saved::SavedCard;
+use served_memory::{Limits as ServiceLimits, Served};
 use std::alloc::{Allocator, Global};
 use std::marker::Model;
 
@@ -114,30 +115,33 @@ impl<A: Allocator> NetworkCard<A> {
     }
 
     /// Serves a piece of the queue of this number in its window: the frames that wait go to the driver, and those that
-    /// the driver sent are taken while there is room. `room` is where the chains stand, one after another.
-    pub(crate) fn serve<M: Allocator>(
+    /// the driver sent are taken while there is room.
+    #[inline(always)]
+    pub(crate) fn serve_in<G: Served>(
         &mut self,
         q: u16,
-        mem: &mut GuestMemory<M>,
+        mem: &mut G,
         window: &mut Window,
         stage: Stage,
-        budget: Budget,
-        room: &mut Chain,
+        limits: ServiceLimits,
+        chain: &mut Chain,
+        room: &mut G::Room,
     ) -> Progress
-        requires sound { IsSound mem.old window.old }
-        ensures serves { CardServesTo stage budget result self.old q mem.old mem.new window.old window.new self.new }
-        ensures range { SameRange mem.old mem.new }
-        ensures sound { IsSound mem.new window.new }
+        requires sound { IsSound (G.world.last (G.seen mem.old)) window.old }
+        ensures serves { CardServesIn G.world stage limits result self.old q (G.seen mem.old) (G.seen mem.new) window.old
+            window.new self.new }
+        ensures range { SameRange (G.world.last (G.seen mem.old)) (G.world.last (G.seen mem.new)) }
+        ensures sound { IsSound (G.world.last (G.seen mem.new)) window.new }
     {
         match q {
             RECEIVEQ => self
                 .network
-                .serve_receive_piece(mem, window, stage, budget, room),
+                .serve_receive_in(mem, window, stage, limits, chain, room),
             TRANSMITQ => {
                 let out = &mut self.sent;
                 match self
                     .network
-                    .serve_transmit_piece(mem, window, out, stage, budget, room)
+                    .serve_transmit_in(mem, window, out, stage, limits, chain, room)
                 {
                     Ok(progress) => progress,
                     Err(NoRoom) => Progress::Done,

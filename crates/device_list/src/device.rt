@@ -3,7 +3,7 @@
 ghost use Rattle.std.specs.Prelude.{◌≡◌, false, true, IfErr, IfOk, OnErr, OnOk};
 ghost use Rattle.guest_memory.specs.Memory.{SameRange};
 ghost use Rattle.mmio_window.specs.Interrupts.{interrupt_bits};
-ghost use Rattle.device_list.specs.Device.{DeviceServesTo, DeviceState, IsSoundDevice, device_written, fresh_device, register_of};
+ghost use Rattle.device_list.specs.Device.{DeviceServesIn, DeviceServesTo, DeviceState, IsSoundDevice, device_written, fresh_device, register_of};
 ghost use Rattle.device_list.specs.declared.refusal.WriteRefusal.{WriteRefusal};
 ghost use Rattle.device_list.specs.List.{notified_at};
 ghost use Rattle.device_list.specs.Model.{has_bad_disk, has_bad_mtu, must_wait, state_of};
@@ -20,6 +20,7 @@ use chain::{Budget, Chain, Progress};
 use guest_memory::GuestMemory;
 use mmio_window::{Action, Stage, Window};
 use network_device::NoMemory;
+use served_memory::{Limits, Served};
 use std::alloc::{Allocator, Global};
 use std::marker::Model;
 
@@ -131,5 +132,25 @@ impl<A: Allocator> VirtioDevice<A> {
     {
         self.model
             .serve(q, mem, &mut self.window, stage, budget, room)
+    }
+
+    /// The same over any memory, within limits. Of a disk nothing is served.
+    pub(crate) fn serve_in<G: Served>(
+        &mut self,
+        q: u16,
+        mem: &mut G,
+        stage: Stage,
+        limits: Limits,
+        chain: &mut Chain,
+        room: &mut G::Room,
+    ) -> Progress
+        requires sound { IsSoundDevice (G.world.last (G.seen mem.old)) self.old }
+        ensures serves { DeviceServesIn G.world stage limits result q (G.seen mem.old) (G.seen mem.new) self.old self.new }
+        ensures range { SameRange (G.world.last (G.seen mem.old)) (G.world.last (G.seen mem.new)) }
+        ensures sound { IsSoundDevice (G.world.last (G.seen mem.new)) self.new }
+    {
+        let window = &mut self.window;
+        self.model
+            .serve_in(q, mem, window, stage, limits, chain, room)
     }
 }

@@ -9,6 +9,7 @@ ghost use Rattle.device_list.specs.List.{AreSoundDevices, DevicesServeTo, IsRefu
 
 mod host;
 mod image;
+mod raced;
 mod saved;
 mod waiting;
 

@@ -5,7 +5,7 @@ ghost use Rattle.std.specs.Option.{option_map};
 ghost use Rattle.guest_memory.specs.Memory.{SameRange};
 ghost use Rattle.mmio_window.specs.Soundness.{IsSound};
 ghost use Rattle.negotiation.specs.Features.{feature_bits};
-ghost use Rattle.device_list.specs.Model.{IsHeld, KeepsModel, ModelServesTo, config_of, configured, disk_of, features_of, fresh_model, has_bad_disk, has_bad_mtu, image_of, kind_of, must_wait, state_of};
+ghost use Rattle.device_list.specs.Model.{IsHeld, KeepsModel, ModelServesIn, ModelServesTo, config_of, configured, disk_of, features_of, fresh_model, has_bad_disk, has_bad_mtu, image_of, kind_of, must_wait, state_of};
 
 mod saved;
 mod waiting;
@@ -21,6 +21,7 @@ use hosted_disk::HostedDisk;
 use mmio_window::{CONFIGURATION_LEN, DeviceKind, Stage, Window};
 use negotiation::{Features, Flags};
 use network_device::{NoMemory, offered_features};
+use served_memory::{Limits, Served};
 use std::alloc::{Allocator, Global};
 
 /// What stands behind a device's window, by the type of device.
@@ -177,19 +178,49 @@ impl<A: Allocator> DeviceModel<A> {
         ensures sound { IsSound mem.new window.new }
         ensures held { IsHeld mem.new window.new (state_of self.new) }
     {
+        if let DeviceModel::Block(disk) = self {
+            disk.serve(q, mem, window, room);
+            return Progress::Done;
+        }
+        let limits = Limits { budget, rounds: 1 };
+        self.serve_in(q, mem, window, stage, limits, room, &mut ())
+    }
+
+    /// Serves a piece of the queue of this number in its window, over any memory, within limits. Of a disk nothing is served.
+    /// `chain` and `room` are as [`Served::serve`] takes them.
+    #[inline(always)]
+    pub(crate) fn serve_in<G: Served>(
+        &mut self,
+        q: u16,
+        mem: &mut G,
+        window: &mut Window,
+        stage: Stage,
+        limits: Limits,
+        chain: &mut Chain,
+        room: &mut G::Room,
+    ) -> Progress
+        requires sound { IsSound (G.world.last (G.seen mem.old)) window.old }
+        requires held { IsHeld (G.world.last (G.seen mem.old)) window.old (state_of self.old) }
+        ensures serves { ModelServesIn G.world stage limits result (state_of self.old) q (G.seen mem.old) (G.seen mem.new)
+            window.old window.new (state_of self.new) }
+        ensures same_kind { kind_of (state_of self.new) ≡ kind_of (state_of self.old) }
+        ensures same_features { features_of (state_of self.new) ≡ features_of (state_of self.old) }
+        ensures range { SameRange (G.world.last (G.seen mem.old)) (G.world.last (G.seen mem.new)) }
+        ensures sound { IsSound (G.world.last (G.seen mem.new)) window.new }
+        ensures held { IsHeld (G.world.last (G.seen mem.new)) window.new (state_of self.new) }
+    {
         match (self, q) {
             (DeviceModel::Entropy(entropy), REQUESTQ) => {
-                entropy.serve_piece(mem, window, stage, budget, room)
+                entropy.serve_in(mem, window, stage, limits, chain, room)
             }
             (DeviceModel::Entropy(_), _) => Progress::Done,
-            (DeviceModel::Network(card), _) => card.serve(q, mem, window, stage, budget, room),
-            (DeviceModel::Block(disk), _) => {
-                disk.serve(q, mem, window, room);
-                Progress::Done
+            (DeviceModel::Network(card), _) => {
+                card.serve_in(q, mem, window, stage, limits, chain, room)
             }
             (DeviceModel::Console(terminal), _) => {
-                terminal.serve(q, mem, window, stage, budget, room)
+                terminal.serve_in(q, mem, window, stage, limits, chain, room)
             }
+            (DeviceModel::Block(_), _) => Progress::Done,
             (DeviceModel::Image(_), _) => Progress::Done,
         }
     }

@@ -7,11 +7,11 @@ ghost use Rattle.mmio_window.specs.Soundness.{IsSound};
 ghost use Rattle.negotiation.specs.Features.{feature_bits};
 ghost use Rattle.console_device.specs.Config.{config_of, console_features};
 ghost use Rattle.console_device.specs.Input.{fitting};
-ghost use Rattle.device_list.specs.Terminal.{TerminalServesTo, fresh_terminal, is_terminal_starving, output_of, terminal_configured, with_emergency, with_size, with_typed, without_output};
+ghost use Rattle.device_list.specs.Terminal.{TerminalServesIn, fresh_terminal, is_terminal_starving, output_of, terminal_configured, with_emergency, with_size, with_typed, without_output};
 
 mod saved;
 
-use chain::{Budget, Chain, Progress};
+use chain::{Chain, Progress};
 use console_device::{ConsoleDevice, EMERGENCY_WRITE, RECEIVEQ, TRANSMITQ};
 use guest_memory::GuestMemory;
 use mmio_window::{CONFIGURATION_LEN, Stage, Window};
@@ -19,6 +19,7 @@ use negotiation::Features;
 use network_device::NoMemory;
 use output_queue::OutputQueue;
 pub(crate) use saved::SavedTerminal;
+use served_memory::{Limits, Served};
 use std::alloc::{Allocator, Global};
 use std::marker::Model;
 
@@ -136,30 +137,33 @@ impl<A: Allocator> Terminal<A> {
     }
 
     /// Serves a piece of the queue of this number in its window: pending input goes to the driver, and the bytes that
-    /// the driver sent are taken while there is room. `room` is where the chains stand, one after another.
-    pub(crate) fn serve<M: Allocator>(
+    /// the driver sent are taken while there is room.
+    #[inline(always)]
+    pub(crate) fn serve_in<G: Served>(
         &mut self,
         q: u16,
-        mem: &mut GuestMemory<M>,
+        mem: &mut G,
         window: &mut Window,
         stage: Stage,
-        budget: Budget,
-        room: &mut Chain,
+        limits: Limits,
+        chain: &mut Chain,
+        room: &mut G::Room,
     ) -> Progress
-        requires sound { IsSound mem.old window.old }
-        ensures serves { TerminalServesTo stage budget result self.old q mem.old mem.new window.old window.new self.new }
-        ensures range { SameRange mem.old mem.new }
-        ensures sound { IsSound mem.new window.new }
+        requires sound { IsSound (G.world.last (G.seen mem.old)) window.old }
+        ensures serves { TerminalServesIn G.world stage limits result self.old q (G.seen mem.old) (G.seen mem.new) window.old
+            window.new self.new }
+        ensures range { SameRange (G.world.last (G.seen mem.old)) (G.world.last (G.seen mem.new)) }
+        ensures sound { IsSound (G.world.last (G.seen mem.new)) window.new }
     {
         match q {
             RECEIVEQ => self
                 .console
-                .serve_receive_piece(mem, window, stage, budget, room),
+                .serve_receive_in(mem, window, stage, limits, chain, room),
             TRANSMITQ => {
                 let out = &mut self.output;
                 match self
                     .console
-                    .serve_transmit_piece(mem, window, out, stage, budget, room)
+                    .serve_transmit_in(mem, window, out, stage, limits, chain, room)
                 {
                     Ok(progress) => progress,
                     Err(_) => Progress::Done,
