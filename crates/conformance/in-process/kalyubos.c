@@ -9,7 +9,7 @@
 #include <stdlib.h>
 #include <string.h>
 
-#include "device.h"
+#include "slot.h"
 #ifdef HOSTED
 #include "disks.h"
 #else
@@ -75,28 +75,11 @@ static const char *make(const struct setup *setup)
     if (setup->guests_len > MOST_SLOTS)
         return "TooManySlots";
     for (size_t i = 0; i < setup->guests_len; i++) {
-        const struct guest *guest = &setup->guests[i];
-        slots[i] = (struct kalyubos_slot){
-            .size = sizeof *slots, .start = guest->start, .count = guest->count, .spare = guest->spare, .cols = guest->cols,
-            .rows = guest->rows, .outlet = MOST_WAITING, .read_only = guest->read_only,
-            .hosted = guest->hosted || HOSTED,
-            .depth = guest->hosted && guest->depth == 0 ? UINT32_MAX : guest->depth, /* of C's slots 0 is 1 */
-        };
-        for (size_t j = 0; j < guest->regions_len; j++)
-            slots[i].regions[j] = (struct kalyubos_region){guest->regions[j].base, guest->regions[j].len};
-        memcpy(slots[i].identity, guest->identity, sizeof slots[i].identity);
-        for (size_t j = 0; j < guest->devices_len; j++) {
-            const struct further_device *device = &guest->devices[j];
-            slots[i].devices[j] = (struct kalyubos_device){
-                .kind = device->is_disk || (device->is_image_disk && HOSTED) ? KALYUBOS_DISK :
-                        device->is_image_disk ? KALYUBOS_IMAGE_DISK : device->is_card ? KALYUBOS_NETWORK :
-                        device->is_console ? KALYUBOS_CONSOLE_DEVICE : KALYUBOS_ENTROPY,
-                .start = device->place, .cols = device->cols, .rows = device->rows,
-                .mtu = device->mtu, .sectors = device->sectors, .read_only = device->read_only, .depth = device->depth,
-            };
-            memcpy(slots[i].devices[j].mac, device->mac, sizeof device->mac);
-            memcpy(slots[i].devices[j].identity, device->identity, sizeof device->identity);
-        }
+        slots[i] = slot_of(&setup->guests[i], MOST_WAITING);
+        slots[i].hosted = slots[i].hosted || HOSTED;
+        for (size_t j = 0; HOSTED && j < KALYUBOS_DEVICES; j++)
+            if (slots[i].devices[j].kind == KALYUBOS_IMAGE_DISK)
+                slots[i].devices[j].kind = KALYUBOS_DISK;
     }
     memset(begun, 0, sizeof begun);
     image = setup->image;

@@ -416,7 +416,6 @@ static bool read_device_fields(const struct field *fields, size_t count, struct 
         {"take", TAKE, 3}, {"dsent", DROP_SENT, 3}, {"link", SET_LINK, 4}, {"plug", PLUG, 8}, {"dsz", DEVICE_RESIZE, 5},
         {"dio", DISK_COMPLETE, 5}, {"ddrop", DISK_DROP, 3}, {"dhold", DISK_HOLD, 3}, {"drelease", DISK_RELEASE, 3},
     };
-    struct further_device device = {0};
     uint64_t value;
     size_t i = 0, of = sizeof lines / sizeof *lines;
     while (i < of && !(is(fields[0], lines[i].word) && count == lines[i].count))
@@ -427,16 +426,16 @@ static bool read_device_fields(const struct field *fields, size_t count, struct 
     event->kind = lines[i].kind;
     event->number = (unsigned)value;
     event->is_there = plugged && event->number < *plugged;
-    const struct further_device *there = event->is_there ? &trace->guests[event->guest].devices[event->number] : &device;
+    const struct further_device *there = event->is_there ? &trace->guests[event->guest].devices[event->number] : &event->device;
     event->is_disk = there->is_disk;
     event->is_console = there->is_console;
     switch (lines[i].kind) {
     case PLUG:
-        if (!read_kind(&fields[3], count - 3, &device))
+        if (!read_kind(&fields[3], count - 3, &event->device))
             return false;
-        event->is_disk = device.is_disk;
-        event->is_console = device.is_console;
-        event->is_there = plugged && may_plug(&trace->guests[event->guest], *plugged, event->number, &device);
+        event->is_disk = event->device.is_disk;
+        event->is_console = event->device.is_console;
+        event->is_there = plugged && may_plug(&trace->guests[event->guest], *plugged, event->number, &event->device);
         if (event->is_there)
             ++*plugged;
         return true;

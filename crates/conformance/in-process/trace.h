@@ -33,6 +33,7 @@ struct event {
     uint16_t cols, rows;
     uint8_t *bytes;
     size_t len;
+    struct further_device device; /* that is plugged in */
 };
 
 /* A text that grows. */
