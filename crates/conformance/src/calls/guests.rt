@@ -1,11 +1,8 @@
-//! `guests`: guests on a board, over an image whose listed calls fail, or in a session; and a heap that may refuse.
+//! `guests`: guests on a board, over an image whose listed calls fail; and a heap that may refuse.
 
 mod boards;
-mod devices;
 mod driver;
-mod events;
 mod runs;
-mod sessions;
 mod snapshots;
 mod stops;
 mod texts;
@@ -17,13 +14,12 @@ use crate::calls::words::Words;
 use board::{Backing, Board, Event, Extent, RegionSpec, Regions, SlotSpec};
 use linked_list_allocator::LocalHeap;
 use sector_cache::ScriptedImage;
-use session::{Budget, GuestSpec, MOST_DEVICES, Session};
 use std::alloc::{AllocError, Allocator, Global};
 pub(crate) use stops::Stops;
 use test_support::RefusingHeap;
 use trace::event_of_line;
 
-/// A board or a session, and what the next one is asked for.
+/// A board, and what the next one is asked for.
 #[derive(Drop)]
 pub(crate) struct Guests<'h, B: Allocator> {
     alloc: Global,
@@ -31,13 +27,10 @@ pub(crate) struct Guests<'h, B: Allocator> {
     heap: &'h RefusingHeap<B>,
     image: Vec<u8>,
     failing: Vec<u64>,
-    guests: Vec<GuestSpec>,
-    budget: Budget,
+    slots: Vec<SlotSpec>,
     events: Vec<Event<&'h RefusingHeap<B>>, &'h RefusingHeap<B>>,
     refused: u64,
     board: Option<Board<ScriptedImage, &'h RefusingHeap<B>>>,
-    session: Option<Session<&'h RefusingHeap<B>>>,
-    left: Vec<u8, &'h RefusingHeap<B>>,
 }
 
 impl<'h, B: Allocator> Guests<'h, B> {
@@ -52,13 +45,10 @@ impl<'h, B: Allocator> Guests<'h, B> {
             heap,
             image: Vec::new(alloc),
             failing: Vec::new(alloc),
-            guests: Vec::new(alloc),
-            budget: Budget::UNLIMITED,
+            slots: Vec::new(alloc),
             events: Vec::new(heap),
             refused: 0,
             board: None,
-            session: None,
-            left: Vec::new(heap),
         }
     }
 
@@ -72,25 +62,19 @@ impl<'h, B: Allocator> Guests<'h, B> {
         put_word(answer, "ok")
     }
 
-    // Asks for so many guests more, each with so much room for its output.
+    // Asks for so many guests more.
     fn ask(&mut self, words: &mut Words<'_>, answer: &mut String) -> Answered {
         let times = words.u8();
-        let outlet = words.u32();
         let slot = slot_of(self.alloc, words)?;
-        let guest = GuestSpec {
-            slot,
-            outlet,
-            devices: [None; MOST_DEVICES],
-        };
         for _ in 0..times {
-            self.add(&guest)?;
+            self.add(&slot)?;
         }
         put_word(answer, "ok")
     }
 
     // Asks for one guest more.
-    fn add(&mut self, guest: &GuestSpec) -> Result<(), AllocError> {
-        self.guests.push(*guest)?;
+    fn add(&mut self, slot: &SlotSpec) -> Result<(), AllocError> {
+        self.slots.push(*slot)?;
         Ok(())
     }
 
@@ -100,14 +84,9 @@ impl<'h, B: Allocator> Guests<'h, B> {
         put_word(answer, "ok")
     }
 
-    /// The call of an event, of the session or the board.
+    /// The call of an event.
     pub(super) fn event(&mut self, line: &str, answer: &mut String) -> Answered {
-        if self.session.is_some() {
-            let event = event_of(self.alloc, line)?;
-            self.call_event(&event, answer)
-        } else {
-            self.handle(event_of(self.heap, line)?, answer)
-        }
+        self.handle(event_of(self.heap, line)?, answer)
     }
 }
 
@@ -121,7 +100,6 @@ impl<B: Allocator> Subject for Guests<'_, B> {
             "replay" => self.replay(words, answer),
             "used" => put_number(answer, self.local.used() as u64),
             "board" => self.make_board(words, answer),
-            "session" => self.make_session(words, answer),
             _ => self.call_board(words, answer),
         }
     }

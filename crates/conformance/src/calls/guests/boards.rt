@@ -40,15 +40,11 @@ impl<'h, B: Allocator> Guests<'h, B> {
 
     /// The board that was asked for.
     pub(super) fn made(&self, cache: u32) -> Result<Made<'h, B>, Stuck> {
-        let mut slots = Vec::with_capacity(self.alloc, self.guests.len())?;
-        for guest in &self.guests {
-            slots.push(guest.slot)?;
-        }
         let failing = self.failing.to_vec(self.alloc)?;
         let Ok(image) = ScriptedImage::new(self.image.to_vec(self.alloc)?, failing) else {
             return Err(Stuck::Conditions);
         };
-        Ok(match board_of(self.heap, &slots, image, cache) {
+        Ok(match board_of(self.heap, &self.slots, image, cache) {
             Ok(board) => Ok(board),
             Err(refused) => Err((refused.why, refused.image.bytes() == self.image.as_slice())),
         })
@@ -125,7 +121,7 @@ impl<'h, B: Allocator> Guests<'h, B> {
                 return put_number(answer, n);
             }
         }
-        let is_enough = requests > self.guests.len() as u64;
+        let is_enough = requests > self.slots.len() as u64;
         put_word(answer, if is_enough { "ok" } else { "too few" })
     }
 

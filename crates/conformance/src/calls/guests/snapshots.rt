@@ -1,4 +1,4 @@
-//! A slot of a board or a session, saved as a snapshot and restored.
+//! A slot of a board, saved as a snapshot and restored.
 
 use super::Guests;
 use crate::calls::answer::{put_bytes, put_number, put_result, put_word};
@@ -8,7 +8,7 @@ use board::{Board, Bytes, Event, EventKind, Image, RestoreRefusal, SaveRefusal};
 use std::alloc::{AllocError, Allocator};
 
 impl<'h, B: Allocator> Guests<'h, B> {
-    /// Makes a call of snapshots, or another one.
+    /// Makes a call of snapshots, or that of an event.
     pub(super) fn call_snapshots(
         &mut self,
         words: &mut Words<'_>,
@@ -19,7 +19,7 @@ impl<'h, B: Allocator> Guests<'h, B> {
             "save_into" => self.save_into(words, answer),
             "restore" => self.restore(words, answer),
             "restore_event" => self.restore_event(words, answer),
-            _ => self.call_session(words, answer),
+            _ => self.event(words.whole(), answer),
         }
     }
 
@@ -51,9 +51,6 @@ impl<'h, B: Allocator> Guests<'h, B> {
     fn restore(&mut self, words: &mut Words<'_>, answer: &mut String) -> Answered {
         let slot = words.u8();
         let bytes = words.bytes(self.alloc)?;
-        if let Some(session) = &mut self.session {
-            return put_result(answer, session.restore(slot, &bytes));
-        }
         let Some(board) = &mut self.board else {
             return Err(Stuck::Conditions);
         };
@@ -68,12 +65,6 @@ impl<'h, B: Allocator> Guests<'h, B> {
     fn restore_event(&mut self, words: &mut Words<'_>, answer: &mut String) -> Answered {
         let slot = words.u8();
         let from = words.bytes(self.alloc)?;
-        if self.session.is_some() {
-            let what = EventKind::Restore {
-                bytes: Bytes::from(from),
-            };
-            return self.call_event(&Event { slot, what }, answer);
-        }
         let what = EventKind::Restore {
             bytes: Bytes::from(from.to_vec(self.heap)?),
         };
