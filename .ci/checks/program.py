@@ -1,6 +1,7 @@
 """What make check tries on the program and the library, which it builds without a proof: every scenario and row of the matrix,
-traces of guests from seeds, broken texts, the suite in one process, and the hosts in C. A check of them that passed isn't made again while
-it stands on the same: what was built, the compiler, and each file but pages and what a crate is proved and built of."""
+traces of guests from seeds, broken texts, the suite in one process, the worked calls of a host, and the hosts in C. A check of them that
+passed isn't made again while it stands on the same: what was built, the compiler, and each file but pages and what a crate is proved and
+built of."""
 import json
 import re
 import shutil
@@ -50,6 +51,13 @@ def fuzzed():
     """Traces of hostile and sane guests, of each kind."""
     good, lines = script("fuzz/run", TRACES, "--program", PROGRAM, "--in-place")
     return good, lines[-1:] if good else lines
+
+
+def host_calls():
+    """The worked calls that C makes of the library."""
+    good, lines = script("crates/conformance/host-calls/run", LIBRARY)
+    counts = [line.split(": ")[1].split()[0] for line in lines if line.endswith(" calls answer as they must")]
+    return good, [f"{' + '.join(counts)} calls answer as they must"] if good else lines
 
 
 def hosts():
@@ -103,12 +111,13 @@ TRIED = {
     "broken": lambda: last_line("tests/program/broken", "--program", PROGRAM),
     "streams": lambda: last_line("tests/program/streams", PROGRAM),
     "in-process": in_one_process,
+    "host calls": host_calls,
     "hosts in C": hosts,
     "racing accesses": lambda: last_line("examples/embed/racing-accesses", "--library", LIBRARY),
 }
 CHECKS = BUILDS | {name: unless_passed(name, check) for name, check in TRIED.items()}
 AFTER = {"scenarios": ["program", "matrix"], "fuzz": ["program"], "broken": ["program"], "streams": ["program"],
-         "in-process": ["library", "matrix"], "hosts in C": ["library"],
+         "in-process": ["library", "matrix"], "host calls": ["library"], "hosts in C": ["library"],
          "racing accesses": ["library"]}
 
 
