@@ -101,7 +101,8 @@ enum {
     KALYUBOS_HAS_BOARD = 2,          /* the handle holds a board already, and goes on holding it */
     KALYUBOS_BAD_SLOT = 3,           /* the board has no such slot; nothing changed */
     KALYUBOS_BAD_RANGE = 4,          /* no region, nor the image, holds all of the range; nothing changed */
-    KALYUBOS_NO_MEMORY = 5,          /* the heap refused; only the calls that make or judge something answer this */
+    KALYUBOS_NO_MEMORY = 5,          /* the heap refused; only the calls that make or judge something and
+                                        kalyubos_guest_set_memory answer this */
     KALYUBOS_BAD_WINDOW = 6,         /* the slot has no such window, or no device there takes this; nothing changed */
     KALYUBOS_BAD_IMAGE = 7,          /* the image isn't whole sectors of 512 bytes */
     KALYUBOS_NO_SLOTS = 8,           /* a board needs a slot */
