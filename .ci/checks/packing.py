@@ -42,11 +42,10 @@ def version():
     return False, [f"{told}: {', '.join(names)}" for told, names in said.items()]
 
 
-# Stands for rt: it tells of each call, tries a program that copies its input, and builds one.
+# Stands for rt: it tells of each call, and builds a program that copies its input.
 STANDS_FOR_RT = """#!/bin/sh
 [ "$1" = version ] && echo "a kit" && exit
 echo "$1" >> "$CALLS"
-[ "$1" != try ] || exec cat
 echo 'rt: chose --jobs 1 for chain'
 echo 'so far: 40 of 98 functions checked'
 echo 'fn chain::Chain::new: proved'
@@ -56,20 +55,28 @@ printf '#!/bin/sh\\nexec cat' > out/vreplay
 chmod +x out/vreplay
 """
 
-# Calls in their order: the words, whether rt is there, a file that is changed before, the status, what is told and not told, and the calls of rt.
+# Stands for packaging/unproved.
+STANDS_FOR_UNPROVED = """#!/bin/sh
+echo "unproved $1" >> "$CALLS"
+mkdir -p out
+printf '#!/bin/sh\\nexec cat' > "out/$1-unproved"
+chmod +x "out/$1-unproved"
+"""
+
+# Calls in their order: the words, whether rt is there, a file that is changed before, the status, what is told and not told, and what is called.
 RUN_CALLS = [
-    ("run TRACE=none", True, None, 2, "TRACE=none: no such file", "try", ""),
-    ("run TRACE=trace IMAGE=trace", True, None, 2, "whole sectors of 512", "try", ""),
+    ("run TRACE=none", True, None, 2, "TRACE=none: no such file", "proof", ""),
+    ("run TRACE=trace IMAGE=trace", True, None, 2, "whole sectors of 512", "proof", ""),
     ("prove TRACE=trace IMAGE=trace", True, None, 2, "whole sectors of 512", "Proving", ""),
-    ("run TRACE=trace SAVE=image", True, None, 2, "SAVE=FILE wants IMAGE=FILE", "try", ""),
+    ("run TRACE=trace SAVE=image", True, None, 2, "SAVE=FILE wants IMAGE=FILE", "proof", ""),
     ("run TRACE=trace", False, None, 2, "rt isn't installed: vreplay can't be built", "proof", ""),
-    ("run TRACE=trace", True, None, 0, "without proof", "Replaying", "try"),
+    ("run TRACE=trace", True, None, 0, "without proofs", "Proving", "unproved vreplay"),
     ("prove TRACE=trace", True, None, 0, "] chain, ", "talk of the prover", "run"),
     ("prove TRACE=trace", True, None, 0, "Replaying trace:", "Proving", ""),
     ("run TRACE=trace", False, None, 0, "Replaying trace:", "proof", ""),
-    ("run TRACE=trace", True, "crates/chain/src/lib.rt", 0, "The sources changed since vreplay was proved", "Replaying", "try"),
+    ("run TRACE=trace", True, "crates/chain/src/lib.rt", 0, "The sources changed since vreplay was proved", "Proving", "unproved vreplay"),
     ("prove TRACE=trace", True, None, 0, "crates/vreplay/out/run.log", "40 of 98", "run"),
-    ("run TRACE=trace", True, "crates/vreplay/out/vreplay", 0, "No proved vreplay is there", "Replaying", "try"),
+    ("run TRACE=trace", True, "crates/vreplay/out/vreplay", 0, "No proved vreplay is there", "Proving", "unproved vreplay"),
 ]
 
 
@@ -82,8 +89,9 @@ def scratch(folder):
     (folder / "trace").write_text("a record\n")
     for below in ("rt", "others"):
         (folder / below).mkdir()
-    (folder / "rt/rt").write_text(STANDS_FOR_RT)
-    (folder / "rt/rt").chmod(0o755)
+    for path, text in ((folder / "rt/rt", STANDS_FOR_RT), (folder / "packaging/unproved", STANDS_FOR_UNPROVED)):
+        path.write_text(text)
+        path.chmod(0o755)
     for tool in ("make", "sh", "cat", "mkdir", "chmod", "find"):
         (folder / "others" / tool).symlink_to(shutil.which(tool))
     (folder / "others/python3").symlink_to(sys.executable)
