@@ -2,7 +2,7 @@
 use Rattle.std.proofs.Common.{◌≡◌, ◌∙◌, ℕ, ◌+◌, ◌-◌, ◌*◌, ◌/◌, ◌%◌, ◌^◌, ◌<◌, ◌≤◌, inl, inr, sym, ap, subst, arith, bit_and}
 use Rattle.std.specs.Prelude.{bit_xor}
 use Rattle.std.specs.Int.{bit_at}
-use Rattle.std.proofs.lemmas.Nat.{and_le_r, and_mask, pow_pos, shl_below, shl_whole, shr-shr, shr_below, shr_split, xor_lt}
+use Rattle.std.proofs.lemmas.Nat.{and_mask, pow_pos, shl_below, shl_whole, shr-shr, shr_below, shr_split, xor_lt}
 use Rattle.std.proofs.lemmas.Nat.Bits.{bit_at_above, bit_at_cat_high, bit_at_cat_low, bit_at_xor, bit_at-lt, bit_at-zero, ones_shr}
 use Rattle.racing_memory.specs.Words.{IsChange}
 
@@ -107,10 +107,9 @@ change_made word from len v some inside number =
         ∙ shl_whole (fields_differ word s k v) k s 64 (differ_below word s k v number) (omega (arith, inside))
 
 -- the lowest bytes of a number by a mask, and its highest ones
-pub low_bytes_below : (v len : ℕ) → len ≤ 8 → bit_and v ((2 ^ 64 - 1) / 2 ^ (64 - 8 * len)) < 2 ^ (8 * len)
-low_bytes_below v len most =
-    let masked = and_le_r v ((2 ^ 64 - 1) / 2 ^ (64 - 8 * len)) in
-    omega (arith, masked, low_mask (8 * len) (omega (arith, most)), pow_pos (8 * len))
+pub low_bytes : (v len : ℕ) → len ≤ 8 → bit_and v ((2 ^ 64 - 1) / 2 ^ (64 - 8 * len)) ≡ v % 2 ^ (8 * len)
+low_bytes v len most =
+    ap (λ (m : ℕ). bit_and v m) (low_mask (8 * len) (omega (arith, most))) ∙ and_mask v (8 * len)
 
 pub high_bytes_below : (v len low : ℕ) → low ≤ len → v < 2 ^ (8 * len) → v / 2 ^ (8 * low) < 2 ^ (8 * (len - low))
 high_bytes_below v len low below number =

@@ -3,7 +3,7 @@
 ghost use Rattle.std.specs.Prelude.{◌≡◌, ◌+◌, ◌*◌, ◌^◌, ◌≤◌, ◌<◌, length, IsTrue};
 ghost use Rattle.racing_memory.specs.Words.{reaches};
 
-use crate::word::{WORD_LEN, copy_of, store_in_word, word_at};
+use crate::word::{WORD_LEN, copy_of, split_number, store_in_word, word_at};
 use std::marker::Model;
 use std::sync::atomic::AtomicU64;
 
@@ -119,9 +119,9 @@ impl<'w> RacingRegion<'w> {
             let word = word_at(self.words, place) >> (8 * from);
             return ((word & 0xffff) as u16).to_le_bytes();
         }
-        let high = word_at(self.words, place + 1);
-        let low = word_at(self.words, place) >> (8 * from);
-        [(low & 0xff) as u8, (high & 0xff) as u8]
+        let mut bytes = [0; 2];
+        self.copy_words(place, &mut bytes);
+        bytes
     }
 
     /// Stores a number in the `len` bytes from an address on. Those of one word change in one step, and no other byte does.
@@ -139,8 +139,8 @@ impl<'w> RacingRegion<'w> {
             store_in_word(self.words, place, len, v);
             return;
         }
-        let low = v & (u64::MAX >> (64 - 8 * room));
+        let (low, high) = split_number(v, room);
         store_in_word(self.words, place, room, low);
-        store_in_word(self.words, place + room, len - room, v >> (8 * room));
+        store_in_word(self.words, place + room, len - room, high);
     }
 }

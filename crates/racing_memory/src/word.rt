@@ -1,6 +1,6 @@
 //! One word of the memory: the steps that touch it, and what of it a store changes.
 
-ghost use Rattle.std.specs.Prelude.{◌≡◌, ◌+◌, ◌*◌, ◌%◌, ◌^◌, ◌≤◌, ◌<◌, drop, length, take};
+ghost use Rattle.std.specs.Prelude.{◌≡◌, ◌+◌, ◌*◌, ◌/◌, ◌%◌, ◌^◌, ◌≤◌, ◌<◌, drop, length, take};
 ghost use Rattle.byteorder.specs.Endian.{little_bytes};
 ghost use Rattle.racing_memory.specs.Words.{IsChange};
 
@@ -62,4 +62,15 @@ fn change_of(word: u64, from: usize, len: usize, v: u64) -> u64
     let shift = 8 * from;
     let mask = u64::MAX >> (64 - 8 * len);
     (((word >> shift) & mask) ^ v) << shift
+}
+
+/// A number's first bytes, so many, and those behind them: the ones that go into a word, and those for the next one.
+#[inline(always)]
+pub(crate) fn split_number(v: u64, first: usize) -> (u64, u64)
+    requires some { 0 < first }
+    requires most { first < 8 }
+    ensures first { result.0 ≡ v % 2 ^ (8 * first) }
+    ensures behind { result.1 ≡ v / 2 ^ (8 * first) }
+{
+    (v & (u64::MAX >> (64 - 8 * first)), v >> (8 * first))
 }

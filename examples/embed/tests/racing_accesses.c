@@ -23,8 +23,12 @@ static struct site {
     _Atomic uint64_t times;
 } sites[SITES];
 
-/* The page that this thread may touch for one instruction. */
+/* The page that this thread may touch for one instruction, and the word that this one touches. */
 static _Thread_local uint8_t *open_page;
+static _Thread_local uintptr_t touched_word;
+
+/* The word that a CPU writes behind each access. */
+static struct { uintptr_t watched; _Atomic uint64_t *word; uint64_t step; } meddled;
 
 static void end(const char *why, uintptr_t at, uintptr_t touched)
 {
@@ -92,6 +96,7 @@ static void on_access(int number, siginfo_t *info, void *context)
     if (touched % 8 != 0)
         end("an access across words", at, touched);
     note(at);
+    touched_word = touched;
     open_page = (uint8_t *)(touched & ~(uintptr_t)(PAGE - 1));
     if (mprotect(open_page, PAGE, PROT_READ | PROT_WRITE) != 0)
         end("mprotect", at, touched);
@@ -105,6 +110,8 @@ static void on_step(int number, siginfo_t *info, void *context)
     (void)info;
     if (open_page == NULL || mprotect(open_page, PAGE, PROT_NONE) != 0)
         end("mprotect", (uintptr_t)now->uc_mcontext.gregs[REG_RIP], 0);
+    if (touched_word == meddled.watched)
+        atomic_fetch_add(meddled.word, meddled.step);
     open_page = NULL;
     now->uc_mcontext.gregs[REG_EFL] &= ~TRAP;
 }
@@ -123,6 +130,13 @@ uint8_t *racing_accesses_watch(int file, size_t len)
     places[places_len].len = len;
     places_len++;
     return bytes;
+}
+
+void racing_accesses_meddle(const uint8_t *watched, _Atomic uint64_t *word, uint64_t step)
+{
+    meddled.watched = (uintptr_t)watched;
+    meddled.word = word;
+    meddled.step = step;
 }
 
 unsigned racing_accesses_write(const char *path)

@@ -1,16 +1,21 @@
 /*
  * A guest that runs on, by rows: which bytes of its words a service reads and writes, what its driver then finds in its rings and its
- * window, and where a service stops. Each value is worked out from the standard, or from what kalyubos.h says of a budget.
+ * window, where a service stops, and what comes of a word that its CPU writes between two reads. Each value is worked out from the
+ * standard, or from what kalyubos.h says of a budget.
  */
+#define _GNU_SOURCE
 #include <inttypes.h>
 #include <stdio.h>
 #include <stdlib.h>
 #include <string.h>
+#include <sys/mman.h>
+#include <unistd.h>
 
 #include "kalyubos.h"
+#include "racing_accesses.h"
 
 enum { LEN = 0x2000, SIZE = 4, LONG_SIZE = 32, SECTOR = 512, SECTORS = 8, IDENTITY_LEN = 20, OUTLET = 64, GUARD = 8 };
-enum { NEXT = 1, WRITE = 2, VERSION_1 = 1, RING_PACKED = 4, IN = 0, OUT = 1, GET_ID = 8, RECEIVE = 0, TRANSMIT = 1 };
+enum { NEXT = 1, WRITE = 2, VERSION_1 = 1, RING_PACKED = 4, IN = 0, OUT = 1, GET_ID = 8, WRITE_ZEROES = 13, RECEIVE = 0, TRANSMIT = 1 };
 enum { NOTIFY = 0x050, INTERRUPT_STATUS = 0x060, STATUS = 0x070 };
 
 /* Two regions, and in the lower one a queue's table, its available and its used ring, headers, texts, statuses and data. */
@@ -18,7 +23,9 @@ static const uint64_t LOW = 0x80000000, HIGH = 0x90000000, DRIVER = 0x80000100, 
 static const uint64_t HEADER = 0x80000300, REQUEST_STATUS = 0x80000380, DATA = 0x80001000;
 static const char IDENTITY[] = "an identity of 20 b.";
 
-static uint64_t low[LEN / 8], high[LEN / 8];
+static uint64_t low[LEN / 8], plain[LEN / 8];
+/* HIGH as its CPUs have it, and as the library has it. */
+static uint64_t *high = plain, *lent = plain;
 static struct kalyubos_guest guest;
 static struct kalyubos_pending pending;
 
@@ -56,14 +63,14 @@ static void begin(uint32_t chains)
         .size = sizeof slot, .regions = { { LOW, LEN }, { HIGH, LEN } }, .count = SECTORS, .cols = 80, .rows = 25,
         .outlet = OUTLET, .hosted = true, .depth = 3,
     };
-    struct kalyubos_words words[] = { { low, LEN / 8 }, { high, LEN / 8 } };
+    struct kalyubos_words words[] = { { low, LEN / 8 }, { lent, LEN / 8 } };
     struct kalyubos_guest_config config = kalyubos_guest_config_of(&slot, words, 2);
     memcpy(slot.identity, IDENTITY, IDENTITY_LEN);
     config.chains = chains;
     if (guest.guest != NULL)
         kalyubos_guest_destroy(&guest);
     memset(low, 0, sizeof low);
-    memset(high, 0, sizeof high);
+    memset(high, 0, LEN);
     need(kalyubos_guest_create(&guest, &config) == KALYUBOS_DONE, "a guest", chains);
 }
 
@@ -118,7 +125,7 @@ static void request(uint32_t first, uint64_t header, uint32_t type, uint64_t sec
     put(header + 8, sector, 8);
     put(status, 0xff, 1);
     describe(first, header, 16, NEXT);
-    describe(first + 1, addr, len, (uint16_t)(NEXT | (type == OUT ? 0 : WRITE)));
+    describe(first + 1, addr, len, (uint16_t)(NEXT | (type == OUT || type == WRITE_ZEROES ? 0 : WRITE)));
     describe(first + 2, status, 1, WRITE);
 }
 
@@ -138,7 +145,7 @@ static void identities(void)
 {
     for (uint64_t at = HIGH + GUARD; at <= HIGH + 2 * GUARD; at++) {
         begin(0);
-        memset(high, 0xff, sizeof high);
+        memset(high, 0xff, LEN);
         bring_up(KALYUBOS_BLOCK, VERSION_1, 0, USUAL);
         request(0, HEADER, GET_ID, 0, at, IDENTITY_LEN, REQUEST_STATUS);
         offer(0, 0);
@@ -156,13 +163,45 @@ static void typed_bytes(void)
         for (uint64_t at = HIGH + GUARD; at <= HIGH + 2 * GUARD; at++) {
             size_t took = 0;
             begin(0);
-            memset(high, 0xff, sizeof high);
+            memset(high, 0xff, LEN);
             bring_up(KALYUBOS_CONSOLE, VERSION_1, RECEIVE, USUAL);
             describe(0, at, len, WRITE);
             offer(0, 0);
             need(kalyubos_guest_input(&guest, (const uint8_t *)TYPED, len, &took, &pending) == KALYUBOS_DONE && took == len, "bytes are typed", len);
             need(stands(at, TYPED, len), "the bytes of what is typed", at);
         }
+}
+
+/* Used rings in HIGH from a word on and from its middle, so that an entry lies across two words and in one. What isn't theirs stays ff. */
+static void used_rings(void)
+{
+    for (uint64_t at = HIGH + GUARD; at <= HIGH + GUARD + 4; at += 4) {
+        struct areas areas = USUAL;
+        areas.device = at;
+        begin(0);
+        memset(high, 0xff, LEN);
+        put(at, 0, 4);
+        bring_up(KALYUBOS_CONSOLE, VERSION_1, RECEIVE, areas);
+        describe(2, DATA, 5, WRITE);
+        offer(0, 2);
+        size_t took = 0;
+        need(kalyubos_guest_input(&guest, (const uint8_t *)"12345", 5, &took, &pending) == KALYUBOS_DONE && took == 5, "five bytes", at);
+        need(stands(at, "\0\0\1\0\2\0\0\0\5\0\0\0", 12), "flags, idx and entry of a used ring", at);
+    }
+}
+
+/* The four bytes by which a device says when it wants to be notified (2.8.10), in either half of a word: all zeros behind a service. */
+static void event_areas(void)
+{
+    for (uint64_t at = HIGH + GUARD; at <= HIGH + GUARD + 4; at += 4) {
+        struct areas areas = USUAL;
+        areas.device = at;
+        begin(0);
+        memset(high, 0xff, LEN);
+        bring_up(KALYUBOS_CONSOLE, VERSION_1 | RING_PACKED, TRANSMIT, areas);
+        need(set(KALYUBOS_CONSOLE, NOTIFY, TRANSMIT) == KALYUBOS_DONE, "a service of nothing", at);
+        need(stands(at, "\0\0\0\0", 4), "a device's event suppression", at);
+    }
 }
 
 /* Typed bytes over two buffers, of which the second lies before the first in the same word. */
@@ -361,10 +400,58 @@ static void two_reads_are_completed_the_other_way_round(void)
     need(get(REQUEST_STATUS, 1) == 0 && get(REQUEST_STATUS + 8, 1) == 0, "both statuses", 2);
 }
 
+/* ---- a CPU that writes between two reads */
+
+/* HIGH is a file's from now on, and the library has it where each access is seen. A CPU adds 3 to its first word behind each. */
+static void meddle(void)
+{
+    int file = memfd_create("high", 0);
+    need(file >= 0 && ftruncate(file, LEN) == 0, "a file", LEN);
+    high = mmap(NULL, LEN, PROT_READ | PROT_WRITE, MAP_SHARED, file, 0);
+    need(high != MAP_FAILED, "a file in memory", LEN);
+    lent = (uint64_t *)racing_accesses_watch(file, LEN);
+    racing_accesses_meddle((const uint8_t *)lent, (_Atomic uint64_t *)high, 3);
+}
+
+/* A chain names one byte twice: it is `A` as the first buffer is copied, and `D` as the second one is. */
+static void each_buffer_goes_out_as_it_was_copied(void)
+{
+    uint8_t found[OUTLET];
+    size_t count = 0;
+    begin(0);
+    bring_up(KALYUBOS_CONSOLE, VERSION_1, TRANSMIT, USUAL);
+    put(HIGH, 'A', 1);
+    describe(0, HIGH, 1, NEXT);
+    describe(1, HIGH, 1, 0);
+    offer(0, 0);
+    need(set(KALYUBOS_CONSOLE, NOTIFY, TRANSMIT) == KALYUBOS_DONE, "a byte is put out twice", 2);
+    need(kalyubos_guest_take_output(&guest, found, sizeof found, &count) == KALYUBOS_DONE, "both are taken", count);
+    need(count == 2 && found[0] == 'A' && found[1] == 'D', "a byte as each buffer had it", found[1]);
+}
+
+/* A segment of two sectors from sector 4 on, of which its CPU makes 7 once it was read: 4 and 5 are zeroed, as was judged; 8 is no sector. */
+static void the_segment_that_is_judged_is_told(void)
+{
+    struct kalyubos_operation it;
+    struct kalyubos_run runs[KALYUBOS_RUNS];
+    begin(0);
+    bring_up(KALYUBOS_BLOCK, VERSION_1, 0, USUAL);
+    request(0, HEADER, WRITE_ZEROES, 0, HIGH, 16, REQUEST_STATUS);
+    put(HIGH, 4, 8);
+    put(HIGH + 8, 2, 4);
+    offer(0, 0);
+    need(set(KALYUBOS_BLOCK, NOTIFY, 0) == KALYUBOS_IO && get(HIGH, 8) == 7, "a segment that changes", get(HIGH, 8));
+    need(kalyubos_guest_operation(&guest, 0, &it, runs, KALYUBOS_RUNS) == KALYUBOS_DONE, "its operation", 0);
+    need(it.kind == KALYUBOS_ZEROES && it.runs == 1, "what is zeroed", it.runs);
+    need(runs[0].at == 4 * SECTOR && runs[0].len == 2 * SECTOR, "the sectors that were judged", runs[0].at);
+}
+
 int main(void)
 {
     identities();
     typed_bytes();
+    used_rings();
+    event_areas();
     a_row_over_two_buffers();
     headers();
     texts();
@@ -376,7 +463,11 @@ int main(void)
     chains_that_are_offered_again_and_again();
     a_list_of_a_packed_ring();
     two_reads_are_completed_the_other_way_round();
+    meddle();
+    each_buffer_goes_out_as_it_was_copied();
+    the_segment_that_is_judged_is_told();
     kalyubos_guest_destroy(&guest);
-    puts("racing_rows: which bytes of its words a guest that runs on finds changed, what its queues show, and where a service stops");
+    puts("racing_rows: which bytes of its words a guest that runs on finds changed, what its queues show, where a service stops, and"
+         " what comes of a CPU that writes between two reads");
     return 0;
 }
