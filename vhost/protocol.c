@@ -37,6 +37,13 @@ static void stop_all(struct front_end *front_end)
         server_stop(&front_end->queues[i], front_end->drain);
 }
 
+/* Before memory or the log of pages changes. */
+static void hold_all(struct front_end *front_end)
+{
+    for (unsigned i = 0; i < front_end->disk->queues; i++)
+        server_hold(&front_end->queues[i], front_end->drain);
+}
+
 static bool runs_any(const struct front_end *front_end)
 {
     for (unsigned i = 0; i < front_end->disk->queues; i++)
@@ -56,13 +63,14 @@ static bool is_ready(const struct front_end *front_end, const struct queue *queu
            memory_find(memory, queue->used, 1, &at);
 }
 
-/* Starts each queue that is ready. */
+/* Has each queue go on that was held, and starts each that is ready. */
 static const char *start_ready(struct front_end *front_end)
 {
     struct origin origin = { front_end->name,  front_end->disk,     &front_end->memory,
                              &front_end->log, front_end->features, front_end->socket };
     for (unsigned i = 0; i < front_end->disk->queues; i++) {
         struct queue *queue = &front_end->queues[i];
+        server_go_on(queue, &origin);
         const char *why = queue->server == NULL && is_ready(front_end, queue) ? server_start(queue, &origin) : NULL;
         if (why != NULL)
             return why;
@@ -142,7 +150,7 @@ static const char *set_features(struct front_end *front_end, struct message *mes
         return "it changes features while a queue runs";
     bool is_on = front_end->log.bits != NULL && (features & FEATURE_LOG_ALL) != 0;
     if (is_on != front_end->log.is_on)
-        stop_all(front_end);
+        hold_all(front_end);
     front_end->features = features;
     front_end->has_features = true;
     front_end->log.is_on = is_on;
@@ -238,11 +246,7 @@ static struct region region_of(const struct wire_region *said, int file)
     return (struct region){ said->guest, said->size, said->user, said->offset, file };
 }
 
-/*
- * Other regions: each queue that ran goes on over them from where it stood. Its guest of the library ends with its thread and its
- * mapping, and another is made. kalyubos_guest_set_memory would keep the guest, but wants all that is in flight completed too, as the
- * stop has it, and the threads that run to take up a mapping.
- */
+/* Other regions: each queue that runs is held, and goes on over them. */
 static const char *set_memory(struct front_end *front_end, struct message *message)
 {
     uint32_t len = message->it.memory.len;
@@ -258,7 +262,7 @@ static const char *set_memory(struct front_end *front_end, struct message *messa
         memory_clear(&memory);
         return why;
     }
-    stop_all(front_end);
+    hold_all(front_end);
     memory_clear(&front_end->memory);
     front_end->memory = memory;
     return start_ready(front_end);
@@ -271,7 +275,7 @@ static const char *get_memory_slots(struct front_end *front_end, struct message 
 
 static const char *add_region(struct front_end *front_end, struct message *message)
 {
-    stop_all(front_end);
+    hold_all(front_end);
     const char *why = memory_add(&front_end->memory, region_of(&message->it.one.region, wire_take_file(message)));
     return why != NULL ? why : start_ready(front_end);
 }
@@ -279,7 +283,7 @@ static const char *add_region(struct front_end *front_end, struct message *messa
 static const char *remove_region(struct front_end *front_end, struct message *message)
 {
     struct region region = region_of(&message->it.one.region, -1);
-    stop_all(front_end);
+    hold_all(front_end);
     const char *why = memory_remove(&front_end->memory, &region);
     return why != NULL ? why : start_ready(front_end);
 }
@@ -287,7 +291,7 @@ static const char *remove_region(struct front_end *front_end, struct message *me
 /* Other memory for the log of pages that are written to. */
 static const char *set_log(struct front_end *front_end, struct message *message)
 {
-    stop_all(front_end);
+    hold_all(front_end);
     const char *why = page_log_map(&front_end->log, message->files[0], message->it.log.len, message->it.log.offset);
     if (why != NULL)
         return why;

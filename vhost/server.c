@@ -18,7 +18,10 @@
 #include "store.h"
 
 /* What a result of the ring is of, beside the store's. */
-enum { OF_KICK = 1000, OF_STOP };
+enum { OF_KICK = 1000, OF_HALT };
+
+/* What the front end's thread wants of a queue's: at a halt nothing begins any more. */
+enum wish { RUN, HOLD, STOP };
 
 /* For how many milliseconds a cancelled transfer may take to end. */
 enum { CANCEL_TIME = 1000 };
@@ -27,7 +30,7 @@ struct server {
     struct origin origin;
     struct layout layout;
     uint32_t index, base;
-    int kick, call, error, stop;
+    int kick, call, error, halt;
     struct mapping mapping;
     struct window window;
     struct ring ring;
@@ -36,11 +39,13 @@ struct server {
     uint8_t order[KALYUBOS_TAGS];    /* tags as they began, from `first` on */
     unsigned first, order_len;
     bool is_due, is_lost, is_cancelled, is_let_go;
+    bool is_held;                    /* the thread waits for `wake`, and nothing is in flight */
     atomic_bool is_faulty;
     atomic_int owners;               /* the thread, and who started it: the last one frees */
-    atomic_uint limit;               /* for how many milliseconds a stop waits */
-    uint64_t stopped_at;
-    sem_t is_done;                   /* `base` is told */
+    atomic_int wish;                 /* of `enum wish` */
+    atomic_uint limit;               /* for how many milliseconds a halt waits */
+    uint64_t halted_at;
+    sem_t is_done, wake;             /* the thread has come to its halt; and may leave it */
     pthread_t thread;
     uint64_t kicks, calls, operations, failures;
     struct flight flights[KALYUBOS_TAGS];
@@ -188,9 +193,13 @@ static void watch(struct server *server, int file, uint64_t what)
     io_uring_prep_poll_multishot(ring_next(&server->ring, what), file, POLLIN);
 }
 
-static void take_stop(struct server *server)
+static void take_halt(struct server *server, const struct io_uring_cqe *result)
 {
-    server->stopped_at = microseconds();
+    if ((result->flags & IORING_CQE_F_MORE) == 0)
+        watch(server, server->halt, OF_HALT);
+    if (server->halted_at != 0 || atomic_load(&server->wish) == RUN)
+        return;
+    server->halted_at = microseconds();
     uint32_t answer = kalyubos_guest_hold(&server->window.guest, &server->window.pending);
     server->is_due = answer == KALYUBOS_MORE;
 }
@@ -212,8 +221,8 @@ static void take_results(struct server *server)
         if (result.user_data == OF_KICK) {
             take_kick(server, &result);
             is_kicked = true;
-        } else if (result.user_data == OF_STOP) {
-            take_stop(server);
+        } else if (result.user_data == OF_HALT) {
+            take_halt(server, &result);
         } else {
             struct flight *flight = result.user_data < KALYUBOS_TAGS ? &server->flights[result.user_data] : NULL;
             server->store->kind->result(server->store, flight, &result);
@@ -234,27 +243,27 @@ static void spin(struct server *server)
     while (!ring_has(&server->ring) && microseconds() < until);
 }
 
-/* Waits for the next result, for so many milliseconds at most; behind a stop no longer than until its limit is looked at again. */
+/* Waits for the next result, for so many milliseconds at most; at a halt no longer than until its limit is looked at again. */
 static void wait_for_results(struct server *server, int most)
 {
     enum { LOOK = 50 };
     if (server->is_due)
         most = 0;
-    else if (server->stopped_at != 0 && (most < 0 || most > LOOK))
+    else if (server->halted_at != 0 && (most < 0 || most > LOOK))
         most = LOOK;
     if (server->origin.disk->spin != 0 && most != 0)
         spin(server);
     ring_wait(&server->ring, most);
 }
 
-/* Whether a stop is at its end: nothing is in flight, or what is can't be ended. */
-static bool has_stopped(struct server *server)
+/* Whether a halt is reached: nothing is in flight, or what is can't be ended. */
+static bool has_halted(struct server *server)
 {
-    if (server->stopped_at == 0)
+    if (server->halted_at == 0)
         return false;
     if (server->begun == 0)
         return true;
-    uint64_t waited = (microseconds() - server->stopped_at) / 1000, limit = atomic_load(&server->limit);
+    uint64_t waited = (microseconds() - server->halted_at) / 1000, limit = atomic_load(&server->limit);
     if (waited >= limit && !server->is_cancelled) {
         server->is_cancelled = true;
         say(server->origin.name, "queue %u: %d transfers don't end: they are cancelled", server->index,
@@ -263,6 +272,24 @@ static bool has_stopped(struct server *server)
     }
     server->is_lost = waited >= limit + CANCEL_TIME;
     return server->is_lost;
+}
+
+/* At a halt: waits held, where that is wanted, and goes on once the front end's thread says so. False where it is to end. */
+static bool goes_on(struct server *server)
+{
+    if (server->is_cancelled || atomic_load(&server->wish) != HOLD)
+        return false;
+    if (server->is_due) /* on hold a queue has nothing more to serve */
+        settle(server, kalyubos_guest_go_on(&server->window.guest, &server->window.pending));
+    server->is_held = true;
+    (void)sem_post(&server->is_done);
+    while (sem_wait(&server->wake) != 0)
+        continue; /* a signal came */
+    if (atomic_load(&server->wish) == STOP)
+        return false;
+    server->halted_at = 0; /* the next hold may be wanted already: its event comes by the ring */
+    settle(server, kalyubos_guest_release(&server->window.guest, &server->window.pending));
+    return true;
 }
 
 /* Waits for transfers that were given up. Those that end late find unshared memory, but for what the kernel holds itself (O_DIRECT). */
@@ -288,8 +315,9 @@ static void end(struct server *server)
 {
     if (atomic_fetch_sub(&server->owners, 1) != 1)
         return;
-    close(server->stop);
+    close(server->halt);
     (void)sem_destroy(&server->is_done);
+    (void)sem_destroy(&server->wake);
     free(server);
 }
 
@@ -315,15 +343,18 @@ static bool open_store(struct server *server)
 static void serve(struct server *server)
 {
     watch(server, server->kick, OF_KICK);
-    watch(server, server->stop, OF_STOP);
+    watch(server, server->halt, OF_HALT);
     settle(server, window_notify(&server->window)); /* what was on offer before it started */
     for (;;) {
         int most = server->store->kind->turn(server->store);
         while (complete_ended(server))
             most = server->store->kind->turn(server->store);
         tell(server);
-        if (has_stopped(server))
-            return;
+        if (has_halted(server)) {
+            if (!goes_on(server))
+                return;
+            continue;
+        }
         wait_for_results(server, most);
         take_results(server);
     }
@@ -358,11 +389,10 @@ static void *run(void *user)
 
 /* ---- starting and stopping, on the front end's thread */
 
-static const char *lay_out(struct server *server, const struct queue *queue)
+static const char *lay_out(struct layout *layout, const struct queue *queue, const struct origin *origin)
 {
-    const struct memory *memory = server->origin.memory;
-    struct layout *layout = &server->layout;
-    bool is_packed = (server->origin.features & FEATURE_RING_PACKED) != 0;
+    const struct memory *memory = origin->memory;
+    bool is_packed = (origin->features & FEATURE_RING_PACKED) != 0;
     uint64_t num = queue->num, table = 16 * num; /* bytes of each part (2.7, 2.8) */
     uint64_t driver = is_packed ? 4 : 6 + 2 * num, device = is_packed ? 4 : 6 + 8 * num;
     layout->num = queue->num;
@@ -379,7 +409,7 @@ static const char *lay_out(struct server *server, const struct queue *queue)
 static const char *prepare(struct server *server, const struct queue *queue)
 {
     const struct origin *origin = &server->origin;
-    const char *why = lay_out(server, queue);
+    const char *why = lay_out(&server->layout, queue, origin);
     if (why != NULL)
         return why;
     if ((why = mapping_open(&server->mapping, origin->memory, origin->log)) != NULL)
@@ -424,8 +454,9 @@ const char *server_start(struct queue *queue, const struct origin *origin)
     server->error = queue->error;
     atomic_init(&server->owners, 2);
     (void)sem_init(&server->is_done, 0, 0);
-    server->stop = eventfd(0, EFD_CLOEXEC);
-    why = server->stop < 0 ? "there is no eventfd" : prepare(server, queue);
+    (void)sem_init(&server->wake, 0, 0);
+    server->halt = eventfd(0, EFD_CLOEXEC);
+    why = server->halt < 0 ? "there is no eventfd" : prepare(server, queue);
     if (why == NULL && pthread_create(&server->thread, NULL, run, server) != 0) {
         window_end(&server->window);
         mapping_close(&server->mapping);
@@ -442,7 +473,7 @@ const char *server_start(struct queue *queue, const struct origin *origin)
     return NULL;
 }
 
-/* Waits until the thread has told the queue's place. Signals bring it out of a write to an eventfd that the front end has filled. */
+/* Waits until the thread has come to its halt. Signals bring it out of a write to an eventfd that the front end has filled. */
 static void wait_until_done(struct server *server)
 {
     enum { STEP = 100000000 };
@@ -459,14 +490,24 @@ static void wait_until_done(struct server *server)
     }
 }
 
-void server_stop(struct queue *queue, unsigned seconds)
+/* Lets nothing more begin, and waits for the halt that is wanted. */
+static void halt(struct server *server, enum wish wish, unsigned seconds)
+{
+    bool was_held = server->is_held;
+    server->is_held = false;
+    atomic_store(&server->limit, seconds * 1000);
+    atomic_store(&server->wish, wish);
+    if (was_held)
+        (void)sem_post(&server->wake);
+    else
+        (void)eventfd_write(server->halt, 1);
+    wait_until_done(server);
+}
+
+/* Takes over where the queue of a thread stands that has ended, or waits for lost transfers alone. */
+static void finish(struct queue *queue)
 {
     struct server *server = queue->server;
-    if (server == NULL)
-        return;
-    atomic_store(&server->limit, seconds * 1000);
-    (void)eventfd_write(server->stop, 1);
-    wait_until_done(server);
     queue->base = server->base;
     queue->server = NULL;
     if (server->origin.disk->verbose)
@@ -478,6 +519,62 @@ void server_stop(struct queue *queue, unsigned seconds)
     else
         (void)pthread_join(server->thread, NULL);
     end(server);
+}
+
+void server_stop(struct queue *queue, unsigned seconds)
+{
+    if (queue->server == NULL)
+        return;
+    halt(queue->server, STOP, seconds);
+    finish(queue);
+}
+
+void server_hold(struct queue *queue, unsigned seconds)
+{
+    if (queue->server == NULL || queue->server->is_held)
+        return;
+    halt(queue->server, HOLD, seconds);
+    if (!queue->server->is_held)
+        finish(queue);
+}
+
+/* Other memory for a server that is held. NULL where it has it, else why not, and then it has what it had. */
+static const char *change_memory(struct server *server, const struct queue *queue, const struct origin *origin)
+{
+    struct layout layout;
+    struct mapping mapping;
+    const char *why = lay_out(&layout, queue, origin);
+    if (why != NULL || layout.desc != server->layout.desc || layout.driver != server->layout.driver || layout.device != server->layout.device)
+        return "its rings lie elsewhere";
+    if ((why = mapping_open(&mapping, origin->memory, origin->log)) != NULL)
+        return why;
+    why = mapping_guest(&mapping);
+    why = why != NULL ? why : window_change_memory(&server->window, &mapping);
+    if (why == NULL) {
+        mapping.faults = server->mapping.faults;
+        mapping_close(&server->mapping);
+        server->mapping = mapping;
+    } else {
+        mapping_close(&mapping);
+    }
+    return why;
+}
+
+void server_go_on(struct queue *queue, const struct origin *origin)
+{
+    struct server *server = queue->server;
+    if (server == NULL || !server->is_held)
+        return;
+    const char *why = change_memory(server, queue, origin);
+    if (origin->disk->verbose)
+        say(origin->name, "queue %u %s over other memory%s%s", queue->index, why == NULL ? "goes on" : "can't go on", why == NULL ? "" : ": ",
+            why == NULL ? "" : why);
+    if (why != NULL)
+        return server_stop(queue, 0);
+    server->origin = *origin;
+    server->is_held = false;
+    atomic_store(&server->wish, RUN);
+    (void)sem_post(&server->wake);
 }
 
 bool server_is_faulty(const struct server *server)

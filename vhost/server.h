@@ -35,6 +35,13 @@ const char *server_start(struct queue *queue, const struct origin *origin);
  * that haven't ended by then are given up: their thread waits for them alone, and until they have ended no server starts.
  */
 void server_stop(struct queue *queue, unsigned seconds);
+/*
+ * Does so too before memory or the log of pages changes: the server then waits for server_go_on or server_stop. It is stopped where
+ * transfers had to be cancelled.
+ */
+void server_hold(struct queue *queue, unsigned seconds);
+/* Has a server that was held go on over the memory that there is now. It is stopped where it can't, as where its rings lie elsewhere. */
+void server_go_on(struct queue *queue, const struct origin *origin);
 /* Whether its device asks for a reset. */
 bool server_is_faulty(const struct server *server);
 

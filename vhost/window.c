@@ -45,6 +45,15 @@ static void store_64(struct window *window, uint16_t offset, uint64_t value)
     (void)store(window, offset + 4, (uint32_t)(value >> 32));
 }
 
+/* The words of each region of a mapping, as the library takes them. */
+static void lend(const struct mapping *mapping, struct kalyubos_words words[KALYUBOS_REGIONS])
+{
+    for (unsigned i = 0; i < mapping->regions_len; i++) {
+        words[i].words = (uint64_t *)(mapping->base + mapping->regions[i].base);
+        words[i].len = mapping->regions[i].len / sizeof(uint64_t);
+    }
+}
+
 const char *window_make(struct window *window, const struct disk *disk, const struct mapping *mapping)
 {
     struct kalyubos_slot slot = { .size = sizeof slot, .count = disk->sectors, .cols = 80, .rows = 25, .read_only = disk->read_only,
@@ -52,13 +61,18 @@ const char *window_make(struct window *window, const struct disk *disk, const st
     struct kalyubos_words words[KALYUBOS_REGIONS];
     memset(window, 0, sizeof *window);
     memcpy(slot.identity, disk->identity, sizeof slot.identity);
-    for (unsigned i = 0; i < mapping->regions_len; i++) {
-        slot.regions[i] = mapping->regions[i];
-        words[i].words = (uint64_t *)(mapping->base + mapping->regions[i].base);
-        words[i].len = mapping->regions[i].len / sizeof(uint64_t);
-    }
+    memcpy(slot.regions, mapping->regions, mapping->regions_len * sizeof slot.regions[0]);
+    lend(mapping, words);
     struct kalyubos_guest_config config = kalyubos_guest_config_of(&slot, words, mapping->regions_len);
     uint32_t answer = kalyubos_guest_create(&window->guest, &config);
+    return answer == KALYUBOS_DONE ? NULL : kalyubos_answer(answer);
+}
+
+const char *window_change_memory(struct window *window, const struct mapping *mapping)
+{
+    struct kalyubos_words words[KALYUBOS_REGIONS];
+    lend(mapping, words);
+    uint32_t answer = kalyubos_guest_set_memory(&window->guest, mapping->regions, mapping->regions_len, words, mapping->regions_len);
     return answer == KALYUBOS_DONE ? NULL : kalyubos_answer(answer);
 }
 

@@ -5,7 +5,7 @@ import time
 
 import disks
 from front_end import PAGE, Ended, Feature, Memory, Refused, Region, Request, WANTED
-from program import options_of, over, same
+from program import options_of, over, pattern, same
 from queues import KINDS
 
 BASE, SIZE, FAR = 0x80000000, 4 << 20, 0x100000000
@@ -34,19 +34,6 @@ def test_a_region_comes_and_goes(make, kind):
             front.queue.offer([(front.disk.room(40), 16, 0), (FAR + SIZE, 512, 2), (front.disk.room(40) + 32, 1, 2)])
             same(front.queue.has_failed(), True, "whether a buffer in the region that went is an error")
         program.must_serve(kind)
-
-
-@over(*((kind,) for kind in KINDS))
-def test_a_region_comes_under_load(make, kind):
-    """Requests that are in flight while the table changes are each done once."""
-    with make(*options_of(kind)) as program, program.machine(kind, memory=Memory(Region(BASE, 16 << 20)), most=4096) as front:
-        for turn in range(20):
-            names = [front.disk.submit(disks.IN, sector, wanted=4096) for sector in range(0, 32 * 8, 8)]
-            region = Region(FAR, SIZE)
-            front.add_region(region)
-            for sector, name in zip(range(0, 32 * 8, 8), names):
-                same(front.disk.result(name).data, program.bytes(sector, 8), f"sector {sector} in turn {turn}")
-            front.remove_region(region)
 
 
 @over(*((kind,) for kind in KINDS))
@@ -100,6 +87,109 @@ def test_memory_that_was_cut_before(make):
         except (Ended, Refused):
             pass
         program.must_serve()
+
+
+# --- under load
+
+# Where a queue of 256 entries stands behind 1280 chains. A packed one has three descriptors of each: 3840, 15 times round.
+PLACES = {"split": 1280, "packed": 0}
+SECTORS = range(0, 32 * 8, 8)
+
+
+def has_said(program, *counts):
+    """That the program said each of these words so many times."""
+    for words, count in counts:
+        same(program.said().count(words), count, f"how often it said '{words}'")
+
+
+def load(front, program, turn, change):
+    """Has 32 reads and 32 writes in flight while something changes, and judges each of them."""
+    new = {sector: pattern(8, seed=100 * turn + sector + 2) for sector in SECTORS}
+    reads = {sector: front.disk.submit(disks.IN, sector, wanted=4096, notify=False) for sector in SECTORS}
+    writes = [front.disk.submit(disks.OUT, 1024 + sector, data, notify=sector == SECTORS[-1]) for sector, data in new.items()]
+    change()
+    for sector, name in reads.items():
+        done = front.disk.result(name)
+        same((done.status, done.length, done.data), (disks.OK, 4097, program.bytes(sector, 8)), f"the read of sector {sector} in turn {turn}")
+    for name in writes:
+        done = front.disk.result(name)
+        same((done.status, done.length), (disks.OK, 1), f"a write in turn {turn}")
+    same(all(program.bytes(1024 + sector, 8) == data for sector, data in new.items()), True, f"whether the writes of turn {turn} are done")
+
+
+def by_region(front, region):
+    front.add_region(region)
+    front.remove_region(region)
+
+
+def by_table(front, region):
+    front.memory.regions.append(region)
+    front.set_memory(front.memory)
+    front.memory.regions.remove(region)
+    front.set_memory(front.memory)
+
+
+@over(*((kind, way.__name__) for kind in KINDS for way in (by_region, by_table)))
+def test_memory_changes_under_load(make, kind, way):
+    """Each request that is in flight meanwhile is done once, and the queue goes on: it isn't started again."""
+    with make(*options_of(kind), "--verbose") as program, program.machine(kind, memory=Memory(Region(BASE, 16 << 20)), most=4096) as front:
+        for turn in range(20):
+            load(front, program, turn, lambda: {"by_region": by_region, "by_table": by_table}[way](front, Region(FAR, SIZE)))
+        same(front.stop(), PLACES[kind], "the place")
+        has_said(program, ("starts at", 1), ("goes on over other memory", 40))
+
+
+@over(*((kind, count) for kind in KINDS for count in (2, 4)))
+def test_memory_changes_under_several_queues(make, kind, count):
+    with make(*options_of(kind), f"--queues={count}", "--verbose") as program:
+        with program.machine(kind, memory=Memory(Region(BASE, 16 << 20)), most=4096) as front:
+            drivers = [front.disk]
+            for index in range(1, count):
+                queue = KINDS[kind](front.memory, at=BASE + index * 0x200000)
+                front.start(queue, index)
+                drivers.append(disks.Disk(queue, most=4096))
+            for turn in range(10):
+                names = [(disk, sector, disk.submit(disks.IN, sector, wanted=4096)) for sector in SECTORS for disk in drivers]
+                by_region(front, Region(FAR, SIZE))
+                for disk, sector, name in names:
+                    same(disk.result(name).data, program.bytes(sector, 8), f"sector {sector} in turn {turn}")
+            has_said(program, ("starts at", count), ("goes on over other memory", 20 * count))
+
+
+@over(*((kind,) for kind in KINDS))
+def test_rings_may_move(make, kind):
+    """A table in which the rings have other guest-physical addresses: the queue is started there, where it stood."""
+    with make(*options_of(kind), "--verbose") as program, program.machine(kind, 12345, memory=Memory(Region(BASE, SIZE))) as front:
+        queue, region = front.queue, front.memory.regions[0]
+        same(front.disk.do(disks.IN, 1, wanted=512).data, program.bytes(1), "sector 1")
+        region.guest += FAR
+        for area in ("descriptors", "driver", "device"):
+            setattr(queue, area, getattr(queue, area) + FAR)
+        front.disk.at += FAR
+        front.set_memory(front.memory)
+        same(front.disk.do(disks.IN, 2, wanted=512).data, program.bytes(2), "sector 2")
+        has_said(program, ("starts at", 2), ("goes on over other memory", 0))
+
+
+@over(*((kind,) for kind in KINDS))
+def test_rings_may_be_away_for_a_while(make, kind):
+    with make(*options_of(kind)) as program, program.machine(kind, 300, memory=Memory(Region(BASE, SIZE))) as front:
+        same(front.disk.do(disks.IN, 1, wanted=512).data, program.bytes(1), "sector 1")
+        front.remove_region(front.memory.regions[0])
+        name = front.disk.submit(disks.IN, 2, wanted=512)
+        front.add_region(front.memory.regions[0])
+        same(front.disk.result(name).data, program.bytes(2), "sector 2")
+
+
+def test_a_reset_stays_wanted_over_other_memory(make):
+    """A ring that broke the standard isn't served because memory came."""
+    with make() as program, program.machine(memory=Memory(Region(BASE, SIZE))) as front:
+        front.queue.publish(65535)
+        same(front.queue.has_failed(), True, "whether the error is told")
+        os.eventfd_read(front.queue.error)
+        front.add_region(Region(FAR, SIZE))
+        front.disk.submit(disks.IN, 1, wanted=512)
+        same((front.queue.has_failed(0.2), front.queue.used_idx()), (False, 0), "whether it is told again, and what is used")
 
 
 # --- the log

@@ -68,7 +68,7 @@ def test_a_connection_by_its_number(make):
             listener.bind(f"{folder}/socket")
             listener.listen()
             program.kill()
-            words = [program.command, f"--fd={listener.fileno()}", f"--blk-file={program.image}"]
+            words = [program.command, f"--fd={listener.fileno()}", f"--blk-file={program.image}", *program.options]
             program.process = subprocess.Popen(words, stdout=program.log, stderr=program.log, pass_fds=[listener.fileno()])
             program.socket = f"{folder}/socket"
             program.must_serve()
@@ -282,9 +282,9 @@ def test_many_front_ends_one_after_another(make):
         same(open_files(program) <= before, True, f"whether {open_files(program)} open files are as many as {before}")
 
 
-def ends_over(program, *options):
+def ends_over(program):
     """The status and the words of a second program over the disk of the first, or None while it serves it."""
-    words = [program.command, f"--socket-path={program.socket}-2", f"--blk-file={program.image}", *options]
+    words = [program.command, f"--socket-path={program.socket}-2", f"--blk-file={program.image}", *program.options]
     with subprocess.Popen(words, stdin=subprocess.DEVNULL, stderr=subprocess.PIPE, text=True) as second:
         try:
             _, said = second.communicate(timeout=6)
@@ -299,7 +299,7 @@ def test_two_programs_have_one_disk(make, *options):
     """As a machine that moves has them: where both say that they expect it, or where neither writes."""
     with make(*options) as program:
         program.must_serve()
-        ended = ends_over(program, *options)
+        ended = ends_over(program)
         same(ended is None, options != (), f"whether it serves, and it said {ended}")
         if ended:
             same((ended[0], ended[1].endswith("another program has it")), (1, True), f"how it ended: {ended}")
