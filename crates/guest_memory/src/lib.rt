@@ -19,6 +19,7 @@ mod spec;
 pub use fault::{MemoryFault, RegionFault, fault_of, fault_of_regions};
 pub use laws::{a_range_is_tested, a_write_marks_its_pages};
 pub use memory::GuestMemory;
+pub use pages::mark_pages;
 pub use ranged::Ranged;
 pub use region::Region;
 pub use spec::{MOST_REGIONS, RegionSpec, Regions};

@@ -13,7 +13,7 @@ ghost use Rattle.std.specs.Borrow.{sem};
 
 use crate::fault::{MemoryFault, RegionFault, fault_of, fault_of_regions};
 use crate::lookup;
-use crate::pages::mark;
+use crate::pages::mark_pages;
 use crate::region::Region;
 use crate::spec::RegionSpec;
 use std::alloc::{AllocError, Allocator, Global};
@@ -286,6 +286,6 @@ impl<A: Allocator> GuestMemory<A> {
     {
         self.fits(addr, n);
         let from = addr - self.base();
-        mark(self.pages.as_mut_slice(), from, n);
+        mark_pages(self.pages.as_mut_slice(), from, n);
     }
 }

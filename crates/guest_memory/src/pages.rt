@@ -6,9 +6,9 @@ ghost use Rattle.guest_memory.specs.Pages.{bits_of, marked};
 /// How many bytes a page has.
 const PAGE_SIZE: u64 = 4096;
 
-/// Sets the bits of the pages that the `n` bytes from place `from` on lie in.
+/// Sets the bits of the pages that the `n` bytes from place `from` on lie in, where there are bits for them.
 #[inline(never)]
-pub(crate) fn mark(bits: &mut [u8], from: u64, n: u64)
+pub fn mark_pages(bits: &mut [u8], from: u64, n: u64)
     requires { from + n ≤ 2 ^ 64 }
     ensures { bits_of bits.new ≡ marked 0 from n (bits_of bits.old) }
 {

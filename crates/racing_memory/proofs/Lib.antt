@@ -1,4 +1,5 @@
 pub mod Seeing
 pub mod Places
+pub mod Marks
 pub mod Changing
 pub mod Undisturbed

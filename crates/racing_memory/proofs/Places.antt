@@ -12,12 +12,12 @@ use Rattle.guest_memory.proofs.InRegions.{found_holds, found_inside, found_touch
 use Rattle.guest_memory.proofs.Ranges.{inside_same}
 use Rattle.shared_memory.specs.Sightings.{memory}
 use Rattle.shared_memory.proofs.Sightings.{same_back}
-use Rattle.racing_memory.specs.Past.{Access, MakeMemory, Seen, newest, sightings_of}
+use Rattle.racing_memory.specs.Past.{Access, MakeMemory, Seen, Stood, newest, sightings_of}
 use Rattle.racing_memory.specs.Words.{reaches}
 use Rattle.racing_memory.proofs.Seeing.{newest_range, now_is}
 
 -- a range that lies in what was seen last lies in the regions
-inside_regions : (rs : List RegionSpec) (stood : List ℕ) (past : List Access) (a n : ℕ) → Inside (newest rs stood past) a n
+inside_regions : (rs : List RegionSpec) (stood : Stood) (past : List Access) (a n : ℕ) → Inside (newest rs stood past) a n
     → Inside (zeroed_regions rs) a n
 inside_regions rs stood past a n h =
     inside_same (newest rs stood past) (zeroed_regions rs) a n
@@ -78,7 +78,7 @@ region_touched rs a i o x searched some is =
     touches_found (map zeroed_region rs) a i o (zeroed_region x) found some (zeroed_at rs i x at.0 is)
 
 -- the test of a range in a memory of these regions, once one of them is found
-pub room_tells : (rs : List RegionSpec) (stood : List ℕ) (past : List Access) (a n i room : ℕ) (o : Option ℕ) (x : RegionSpec) (s : Seen)
+pub room_tells : (rs : List RegionSpec) (stood : Stood) (past : List Access) (a n i room : ℕ) (o : Option ℕ) (x : RegionSpec) (s : Seen)
     → MakeMemory rs → record { regions = rs; stood = stood; past = past } ≡ s
     → o ≡ position (reaches a) rs → o ≡ Some i → x ≡ get_or rs i x
     → a + room ≡ x.base + x.len → IsTrue (nat_le n room) ↔ Inside (memory (sightings_of s)) a n
@@ -91,7 +91,7 @@ room_tells rs stood past a n i room o x s h view searched some is rest =
     (zeroed_at rs i x at.0 is) (rest ∙ sym (end_zeroed x))))
 
 -- and where there is none
-pub none_tells : (rs : List RegionSpec) (stood : List ℕ) (past : List Access) (a n : ℕ) (o : Option ℕ) (s : Seen)
+pub none_tells : (rs : List RegionSpec) (stood : Stood) (past : List Access) (a n : ℕ) (o : Option ℕ) (s : Seen)
     → MakeMemory rs → record { regions = rs; stood = stood; past = past } ≡ s
     → o ≡ position (reaches a) rs → o ≡ None → IsTrue false ↔ Inside (memory (sightings_of s)) a n
 none_tells rs stood past a n o s h view searched none =
@@ -106,7 +106,7 @@ pub record IsPlace (rs : List RegionSpec) (i a n : ℕ) : Type 0 where
   pub below : (d : RegionSpec) → a + n ≤ (get_or rs i d).base + (get_or rs i d).len
 
 -- what a search that must find answers
-pub place_found : (rs : List RegionSpec) (stood : List ℕ) (past : List Access) (a n i : ℕ) (o : Option ℕ) (s : Seen)
+pub place_found : (rs : List RegionSpec) (stood : Stood) (past : List Access) (a n i : ℕ) (o : Option ℕ) (s : Seen)
     → MakeMemory rs → record { regions = rs; stood = stood; past = past } ≡ s → Inside (newest s.regions s.stood s.past) a n
     → o ≡ position (reaches a) rs → i ≡ unwrap_or o 0 → IsPlace s.regions i a n
 place_found rs stood past a n i o s h view inside searched is =
@@ -132,7 +132,7 @@ place_found rs stood past a n i o s h view inside searched is =
         (get_or-map zeroed_region rs i d (zeroed_region d) (omega (arith, at.0, length-map rs zeroed_region))) at.1
 
 -- a range that lies in the memory ends by 2^64
-pub seen_ends : (rs : List RegionSpec) (stood : List ℕ) (past : List Access) (a n : ℕ) (s : Seen) → MakeMemory rs
+pub seen_ends : (rs : List RegionSpec) (stood : Stood) (past : List Access) (a n : ℕ) (s : Seen) → MakeMemory rs
     → record { regions = rs; stood = stood; past = past } ≡ s → Inside (memory (sightings_of s)) a n → a + n ≤ 2 ^ 64
 seen_ends rs stood past a n s h view inside =
     let none : Region = record { base = 0; bytes = [] } in
@@ -140,8 +140,13 @@ seen_ends rs stood past a n s h view inside =
     let at = inside_found (map zeroed_region rs) a n none h (inside_seen (record { regions = rs; stood = stood; past = past }) a n lies) in
     omega (arith, at.3.below, region_fits (map zeroed_region rs) at.0 none h at.2)
 
+pub newest_ends : (rs : List RegionSpec) (stood : Stood) (past : List Access) (a n : ℕ) (s : Seen) → MakeMemory rs
+    → record { regions = rs; stood = stood; past = past } ≡ s → Inside (newest s.regions s.stood s.past) a n → a + n ≤ 2 ^ 64
+newest_ends rs stood past a n s h view inside =
+    seen_ends rs stood past a n s h view (subst (λ (m : Memory). Inside m a n) (sym (now_is s)) inside)
+
 -- where there is one region, the range lies in it
-pub only_place : (rs : List RegionSpec) (stood : List ℕ) (past : List Access) (a n : ℕ) (s : Seen)
+pub only_place : (rs : List RegionSpec) (stood : Stood) (past : List Access) (a n : ℕ) (s : Seen)
     → MakeMemory rs → record { regions = rs; stood = stood; past = past } ≡ s → Inside (newest s.regions s.stood s.past) a n → length rs ≡ 1
     → IsPlace s.regions 0 a n
 only_place rs stood past a n s h view inside one =

@@ -1,8 +1,8 @@
 //! What a memory was seen as. Only clauses read it.
 
-ghost use Rattle.std.specs.Prelude.{◌≡◌, ℕ, List, [], ◌∷◌};
+ghost use Rattle.std.specs.Prelude.{◌≡◌, Bool, [], ◌∷◌};
 ghost use Rattle.std.specs.Borrow.{ftrue};
-ghost use Rattle.racing_memory.specs.Past.{Noted};
+ghost use Rattle.racing_memory.specs.Past.{Noted, Stood};
 
 use std::marker::{Model, PhantomData};
 
@@ -20,7 +20,7 @@ impl Model for Past {
 impl Past {
     /// The one of a memory that nobody looked at yet, whatever stands there.
     pub(crate) fn new() -> Past
-        ghost stood: { List ℕ }
+        ghost stood: { Stood }
         ensures { result.noted ≡ record { stood = stood; past = [] } }
     {
         Past {
@@ -28,10 +28,11 @@ impl Past {
         }
     }
 
-    /// These bytes stand from an address on, as an access found or left them.
+    /// These bytes stand from an address on, as an access found them or stored them.
     pub(crate) fn note(&mut self, _addr: u64, _bytes: &[u8])
+        ghost stores: { Bool }
         ensures { self.new.noted ≡ record self.old.noted {
-          past = record { addr = _addr; bytes = _bytes.now } ∷ self.old.noted.past;
+          past = record { addr = _addr; bytes = _bytes.now; stores = stores } ∷ self.old.noted.past;
         } }
     {}
 }

@@ -38,6 +38,14 @@ impl<'w> RacingRegion<'w> {
         RacingRegion { base, words }
     }
 
+    /// Its first address.
+    #[inline(always)]
+    pub(crate) fn base(&self) -> u64
+        ensures { result ≡ self.now.base }
+    {
+        self.base
+    }
+
     /// It ends at 2^64 at most.
     pub fn fits(&self)
         ensures { self.now.base + self.now.len ≤ 2 ^ 64 }

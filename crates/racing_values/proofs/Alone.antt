@@ -17,19 +17,19 @@ use Rattle.racing_ring.specs.Source.{Source}
 use Rattle.racing_ring.specs.Packed.{IsOffered, IsPublished, read_entry, read_table}
 use Rattle.racing_ring.proofs.Publishing.{published_offered}
 use Rattle.shared_memory.specs.Bytes.{IsSteady}
-use Rattle.racing_values.specs.Alone.{all_read, buffers, entry, header, list_read, regions, ring, seen_by, stood}
+use Rattle.racing_values.specs.Alone.{all_read, buffers, bytes, entry, header, list_read, regions, ring, seen_by, stood}
 
 -- ---- what stands there
 
 abbrev there : Memory
-there = record { base = 4096; bytes = stood; gaps = []; pages = [] }
+there = record { base = 4096; bytes = bytes; gaps = []; pages = [] }
 
 same : SameRange (zeroed_regions regions) there
 unfolding memory_of
 same = record { base = refl; size = refl; gaps = refl }
 
 filled_is : filled regions stood ≡ there
-filled_is = may_stand regions there same refl
+filled_is = may_stand regions there same
 
 inside : (a n : ℕ) → 4096 ≤ a → a + n ≤ 4152 → Inside there a n
 inside a n above below = record { above = above; below = below; clear = misses-none a n }
@@ -43,34 +43,34 @@ abbrev Found : Access → Type 0
 Found = IsFound (filled regions stood)
 
 abbrev first_flags : Access
-first_flags = record { addr = 4104; bytes = 16 ∷ 0 ∷ 0 ∷ 0 ∷ 0 ∷ 0 ∷ 129 ∷ 0 ∷ [] }
+first_flags = record { addr = 4104; bytes = 16 ∷ 0 ∷ 0 ∷ 0 ∷ 0 ∷ 0 ∷ 129 ∷ 0 ∷ []; stores = false }
 
 abbrev first_addr : Access
-first_addr = record { addr = 4096; bytes = 32 ∷ 16 ∷ 0 ∷ 0 ∷ 0 ∷ 0 ∷ 0 ∷ 0 ∷ [] }
+first_addr = record { addr = 4096; bytes = 32 ∷ 16 ∷ 0 ∷ 0 ∷ 0 ∷ 0 ∷ 0 ∷ 0 ∷ []; stores = false }
 
 abbrev second_flags : Access
-second_flags = record { addr = 4120; bytes = 1 ∷ 0 ∷ 0 ∷ 0 ∷ 7 ∷ 0 ∷ 130 ∷ 0 ∷ [] }
+second_flags = record { addr = 4120; bytes = 1 ∷ 0 ∷ 0 ∷ 0 ∷ 7 ∷ 0 ∷ 130 ∷ 0 ∷ []; stores = false }
 
 abbrev second_addr : Access
-second_addr = record { addr = 4112; bytes = 48 ∷ 16 ∷ 0 ∷ 0 ∷ 0 ∷ 0 ∷ 0 ∷ 0 ∷ [] }
+second_addr = record { addr = 4112; bytes = 48 ∷ 16 ∷ 0 ∷ 0 ∷ 0 ∷ 0 ∷ 0 ∷ 0 ∷ []; stores = false }
 
 list_found : All Found list_read
 list_found =
     All-cons Found second_addr (second_flags ∷ first_addr ∷ first_flags ∷ [])
-    (found second_addr (record { inside = inside 4112 8 (omega arith) (omega arith); bytes = refl }))
+    (found second_addr (record { inside = inside 4112 8 (omega arith) (omega arith); bytes = refl; pages = refl }))
     (All-cons Found second_flags (first_addr ∷ first_flags ∷ [])
-    (found second_flags (record { inside = inside 4120 8 (omega arith) (omega arith); bytes = refl }))
+    (found second_flags (record { inside = inside 4120 8 (omega arith) (omega arith); bytes = refl; pages = refl }))
     (All-cons Found first_addr (first_flags ∷ [])
-    (found first_addr (record { inside = inside 4096 8 (omega arith) (omega arith); bytes = refl }))
+    (found first_addr (record { inside = inside 4096 8 (omega arith) (omega arith); bytes = refl; pages = refl }))
     (All-cons Found first_flags []
-    (found first_flags (record { inside = inside 4104 8 (omega arith) (omega arith); bytes = refl }))
+    (found first_flags (record { inside = inside 4104 8 (omega arith) (omega arith); bytes = refl; pages = refl }))
     (All-nil Found))))
 
 all_found : All Found all_read
 all_found =
-    All-cons Found (record { addr = 4128; bytes = header }) list_read
-    (found (record { addr = 4128; bytes = header })
-    (record { inside = inside 4128 16 (omega arith) (omega arith); bytes = refl })) list_found
+    All-cons Found (record { addr = 4128; bytes = header; stores = false }) list_read
+    (found (record { addr = 4128; bytes = header; stores = false })
+    (record { inside = inside 4128 16 (omega arith) (omega arith); bytes = refl; pages = refl })) list_found
 
 -- so it is what each access shows
 seen_taken : (k : ℕ) → (seen_by list_read).at k ≡ there

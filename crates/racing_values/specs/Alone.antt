@@ -7,7 +7,7 @@ use Rattle.chain.specs.Buffers.{buffer_of}
 use Rattle.chain.specs.Service.{Entry}
 use Rattle.packed_ring.specs.Kind.{entry_of}
 use Rattle.shared_memory.specs.Sightings.{Sightings}
-use Rattle.racing_memory.specs.Past.{Access, sightings_of}
+use Rattle.racing_memory.specs.Past.{Access, Stood, sightings_of}
 
 -- one region of 56 bytes from 0x1000 on
 abbrev pub regions : List RegionSpec
@@ -25,8 +25,11 @@ second = 48 ∷ 16 ∷ 0 ∷ 0 ∷ 0 ∷ 0 ∷ 0 ∷ 0 ∷ 1 ∷ 0 ∷ 0 ∷ 0 �
 abbrev pub header : List ℕ
 header = 1 ∷ 0 ∷ 0 ∷ 0 ∷ 0 ∷ 0 ∷ 0 ∷ 0 ∷ 5 ∷ 0 ∷ 0 ∷ 0 ∷ 0 ∷ 0 ∷ 0 ∷ 0 ∷ []
 
-abbrev pub stood : List ℕ
-stood = first ++ (second ++ (header ++ replicate 8 0))
+abbrev pub bytes : List ℕ
+bytes = first ++ (second ++ (header ++ replicate 8 0))
+
+abbrev pub stood : Stood
+stood = record { bytes = bytes; pages = [] }
 
 -- the queue of two descriptors at 0x1000, before its first service
 abbrev pub ring : RingState
@@ -47,14 +50,14 @@ entry = entry_of 7 2
 
 -- what the call reads: of each descriptor the word with its flags and then its address, and then the header
 abbrev pub list_read : List Access
-list_read = record { addr = 4112; bytes = take 8 second }
-    ∷ record { addr = 4120; bytes = drop 8 second }
-    ∷ record { addr = 4096; bytes = take 8 first }
-    ∷ record { addr = 4104; bytes = drop 8 first }
+list_read = record { addr = 4112; bytes = take 8 second; stores = false }
+    ∷ record { addr = 4120; bytes = drop 8 second; stores = false }
+    ∷ record { addr = 4096; bytes = take 8 first; stores = false }
+    ∷ record { addr = 4104; bytes = drop 8 first; stores = false }
     ∷ []
 
 abbrev pub all_read : List Access
-all_read = record { addr = 4128; bytes = header } ∷ list_read
+all_read = record { addr = 4128; bytes = header; stores = false } ∷ list_read
 
 -- what the memory is seen as behind these accesses
 abbrev pub seen_by : List Access → Sightings

@@ -16,15 +16,15 @@ same_back a b s = record { base = sym s.base; size = sym s.size; gaps = sym s.ga
 -- whatever the guest does, the range stays
 pub interference_range : (races : Bool) (old new : Memory) → Interference races old new → SameRange old new
 interference_range false old new d = subst (λ (m : Memory). SameRange old m) (sym d) (same_self old)
-interference_range true old new d = d
+interference_range true old new d = d.range
 
 pub interference_none : (races : Bool) (m : Memory) → Interference races m m
 interference_none false m = refl
-interference_none true m = same_self m
+interference_none true m = record { range = same_self m; pages = refl }
 
 pub interference_trans : (races : Bool) (a b c : Memory) → Interference races a b → Interference races b c → Interference races a c
 interference_trans false a b c p q = q ∙ p
-interference_trans true a b c p q = same_trans a b c p q
+interference_trans true a b c p q = record { range = same_trans a b c p.range q.range; pages = q.pages ∙ p.pages }
 
 -- no access
 pub loads_none : (races : Bool) (l : Sightings) → Loads races l l

@@ -16,11 +16,16 @@ memory s = s.at s.now
 abbrev pub still : Memory → Sightings
 still m = record { at = λ k. m; now = 0 }
 
+-- whatever the guest's CPUs write: no page that a device wrote is forgotten for it, and none is marked
+pub record GuestWrites (old new : Memory) : Type 0 where
+  pub range : SameRange old new
+  pub pages : new.pages ≡ old.pages
+
 -- what the guest may make of its memory between two accesses: nothing, or, where its CPUs race with the device, whatever
 -- they write
 abbrev pub Interference : Bool → Memory → Memory → Type 0
 Interference false old new = new ≡ old
-Interference true old new = SameRange old new
+Interference true old new = GuestWrites old new
 
 -- the device only read: what was seen before stays, and the guest may have written before each access
 pub record Loads (races : Bool) (old new : Sightings) : Type 0 where

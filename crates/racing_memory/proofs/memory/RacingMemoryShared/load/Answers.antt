@@ -1,4 +1,4 @@
-use Rattle.std.proofs.Common.{◌≡◌, ◌∙◌, ℕ, ap, length, arith}
+use Rattle.std.proofs.Common.{◌≡◌, ◌∙◌, ℕ, ap, length, arith, false}
 use Rattle.guest_memory.specs.Memory.{Inside, part_of}
 use Rattle.shared_memory.specs.Sightings.{memory}
 use Rattle.racing_memory.specs.Past.{sightings_of, seen_again}
@@ -11,8 +11,8 @@ returns-clause-value c =
     let bs = c.copy_out.new.into in
     let long : length bs ≡ length c.args.into.now = omega arith in
     let inside : Inside (memory (sightings_of s)) c.args.addr (length bs) = rw long c.requires in
-    rw c.note.ensures (reads_noted s c.args.addr bs inside
-    ∙ ap (λ (n : ℕ). part_of (memory (sightings_of (seen_again s c.args.addr bs))) c.args.addr n) long)
+    rw c.found.ensures (reads_noted s c.args.addr bs inside
+    ∙ ap (λ (n : ℕ). part_of (memory (sightings_of (seen_again false s c.args.addr bs))) c.args.addr n) long)
 
 pub returns-clause-loads : goal.returns-clause-loads
-returns-clause-loads c = rw c.note.ensures (loads_noted c.args.self.now c.args.addr c.copy_out.new.into)
+returns-clause-loads c = rw c.found.ensures (loads_noted c.args.self.now c.args.addr c.copy_out.new.into)

@@ -1,7 +1,6 @@
 -- `new` makes a value of no bytes, at the empty list of accesses.
 use mathlib.Core.Path.{refl}
-use Prim.Native.Nat.{ℕ}
-use mathlib.Core.List.{List, [], ◌∷◌}
+use mathlib.Core.List.{[], ◌∷◌}
 use seplogic.Ra.Ura.{Ura}
 use mir.Val.{Val, vstruct, vcons, vnil}
 use base.Logic.{SProp}
@@ -23,6 +22,7 @@ use denote.Triple.Spec.{Meets, triple_of}
 use denote.Triple.Table.{entered}
 use denote.Triple.Walked.{says, ends_at, walked, walk_Meets}
 use Rattle.racing_memory.specs.declared.past.Past.{Past}
+use Rattle.racing_memory.specs.Past.{Stood}
 use Rattle.racing_memory.specs.contracts.past.Past as T
 use Rattle.racing_memory.specs.contracts.past.Past.new.Key.{name as #it}
 use Rattle.racing_memory.specs.contracts.past.Past.new as it
@@ -32,7 +32,7 @@ use Rattle.racing_memory.proofs.past.Past.new.Code as code
 abbrev v : Val
 v = vstruct (vcons (vstruct vnil) vnil)
 
-abbrev r : List ℕ → Past
+abbrev r : Stood → Past
 r stood = record { marker = record {}; noted = record { stood = stood; past = [] } }
 
 meets : {M : Type 1} {𝓤 : Ura M} (𝓛 : Logic 𝓤) → (at_mem : Memory → SProp 𝓤) (run : Routine → Fun 𝓤) (𝓣 : Tables 𝓤 𝓛.H)

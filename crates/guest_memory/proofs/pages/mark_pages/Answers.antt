@@ -2,7 +2,7 @@ use Rattle.std.proofs.Common.{◌≡◌, ◌∙◌, ◌⊎◌, ◌/◌, inl, inr
 use Rattle.guest_memory.specs.Pages.{bits_of, marked}
 use Rattle.guest_memory.proofs.Marking.{marked-none}
 use Rattle.guest_memory.proofs.PageBits.{filled_none, filled_to, marked_is, one_page_more}
-use Rattle.guest_memory.proofs.pages.mark.Goals as goal
+use Rattle.guest_memory.proofs.pages.mark_pages.Goals as goal
 
 pub returns-then-n-eq0 : goal.returns-then-n-eq0
 returns-then-n-eq0 c =

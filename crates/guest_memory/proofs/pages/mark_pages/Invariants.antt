@@ -1,7 +1,7 @@
 use Rattle.std.proofs.Common.{◌≡◌, ◌≤◌, ◌⊎◌, length}
 use Rattle.guest_memory.specs.Pages.{bits_of}
 use Rattle.guest_memory.proofs.PageBits.{filled}
-use Rattle.guest_memory.proofs.pages.mark.Given as goal
+use Rattle.guest_memory.proofs.pages.mark_pages.Given as goal
 
 -- the bits of the pages before this one are set
 abbrev pub invariant-loop-page : goal.invariant-loop-page
