@@ -11,7 +11,9 @@ use Rattle.mmio_window.specs.declared.queue.Token.TheVariants as token
 use Rattle.mmio_window.specs.declared.stage.Stage.{Stage}
 use Rattle.mmio_window.specs.declared.stage.Stage.TheVariants.{First, Next}
 use Rattle.mmio_window.specs.Pieces.{ServesTo, opened_at}
-use Rattle.chain.specs.declared.budget.Progress.TheVariants.{Done}
+use Rattle.chain.specs.declared.budget.Budget.{Budget}
+use Rattle.chain.specs.declared.budget.Progress.{Progress}
+use Rattle.chain.specs.declared.budget.Progress.TheVariants.{Done, More}
 use Rattle.chain.specs.declared.fault.Fault.{Fault}
 use Rattle.chain.specs.Service.{Ending, Faulted, Refused, Runs, Site, Spent, Works, stop}
 use Rattle.sector_cache.specs.Disk.{Disk}
@@ -24,13 +26,13 @@ use Rattle.mmio_window.proofs.Pieces.{queue_stands_open}
 use Rattle.block_device.specs.declared.device.BlockDevice.{BlockDevice}
 use Rattle.block_device.specs.declared.operation.Verdict.{Verdict}
 use Rattle.block_device.specs.Asking.{unasked_device}
-use Rattle.block_device.specs.Flights.{AreHeld, AsksNext, HostedQueue, InFlight, IsLanding, LandsBy, LookEnds, LooksFrom, unlimited}
+use Rattle.block_device.specs.Flights.{AreHeld, AsksNext, HostedQueue, InFlight, IsLanding, LandsBy, LookEnds, LooksFrom, LooksTo, PieceStops, unlimited}
 use Rattle.block_device.specs.Tags.{free_tag, is_any, token_in, tokens_of}
-use Rattle.block_device.specs.declared.hosting.Hosted.TheVariants as hosted
 use Rattle.block_device.specs.Extent.{extent_disk}
-use Rattle.block_device.specs.Hosting.{HostsTo, site_of}
+use Rattle.block_device.specs.Hosting.{HostsTo, hosted_by, site_of}
 use Rattle.block_device.proofs.Freeing.{is_free}
 use Rattle.block_device.proofs.Holding.{none_held}
+use Rattle.block_device.proofs.Looking.{asks_next}
 use Rattle.block_device.proofs.Unasked.{any_disk}
 
 -- of the queue that the window's device may serve, the chains of these tags are in flight
@@ -211,18 +213,28 @@ module _ (device : BlockDevice) (tokens : List (Option Token)) where
   works_kept (Some fault) start last ending works are =
       subst (λ (s : Site Queue Disk). AreAhead s.ring tokens) (sym works.1) are
 
-  ends_kept : (stage : Stage) (found : Option Queue) (old new : Memory) (before after : WindowState) (s : Disk)
+  there : (before : WindowState) (queue : Queue) → Some queue ≡ queue_at 0 before → AheadIn before tokens
+      → AreAhead queue tokens
+  there before queue is held = subst (λ (o : Option Queue). IfSome o (λ queue. AreAhead queue tokens)) (sym is) held
+
+  open_kept : (before after : WindowState) (queue last : Queue) → queue_at 0 before ≡ Some queue
+      → after ≡ with_ring 0 before last → AreAhead last tokens → AheadIn after tokens
+  open_kept before after queue last is window are =
+      subst (λ (o : Option Queue). IfSome o (λ queue. AreAhead queue tokens))
+      (sym (ap (queue_at 0) window ∙ queue_stands_open 0 before queue last is)) are
+
+  ends_kept : (stage : Stage) (budget : Budget) (found : Option Queue) (old new : Memory) (before after : WindowState) (s : Disk)
       → found ≡ queue_at 0 before
-      → ServesTo stage (unasked_device device) unlimited 0 found Done old new before after s s
+      → ServesTo stage (unasked_device device) budget 0 found Done old new before after s s
       → AheadIn before tokens
       → AheadIn after tokens
-  ends_kept First None old new before after s is h held =
+  ends_kept First budget None old new before after s is h held =
       subst (λ (w : WindowState). IfSome (queue_at 0 w) (λ queue. AreAhead queue tokens))
       (sym h.notified.1.window) held
-  ends_kept Next None old new before after s is h held =
+  ends_kept Next budget None old new before after s is h held =
       subst (λ (w : WindowState). IfSome (queue_at 0 w) (λ queue. AreAhead queue tokens))
       (sym h.finished.1.window) held
-  ends_kept First (Some queue) old new before after s is h held =
+  ends_kept First budget (Some queue) old new before after s is h held =
       let x = h.notified in
       let service = x.service.service in
       shut_kept tokens before after queue x.last service.last.ring h.ending x.wanted (sym is) x.window
@@ -230,7 +242,7 @@ module _ (device : BlockDevice) (tokens : List (Option Token)) where
       (works_kept (queue_kind.opening_fault old queue) (site_at old (opened old queue) s) service.last h.ending
       service.works (AreAhead-opened_at First old queue tokens
       (subst (λ (o : Option Queue). IfSome o (λ queue. AreAhead queue tokens)) (sym is) held)))
-  ends_kept Next (Some queue) old new before after s is h held =
+  ends_kept Next budget (Some queue) old new before after s is h held =
       let x = h.finished in
       let ends = x.ends.ends in
       shut_kept tokens before after queue x.last ends.last.ring h.ending x.wanted (sym is) x.window
@@ -238,31 +250,67 @@ module _ (device : BlockDevice) (tokens : List (Option Token)) where
       (runs_kept (site_at old queue s) ends.last h.ending ends.runs
       (subst (λ (o : Option Queue). IfSome o (λ queue. AreAhead queue tokens)) (sym is) held))
 
-end_kept : (device : BlockDevice) (stage : Stage) (old new : HostedQueue) (free : Option ℕ)
-    → LookEnds free device stage old new
+  -- or it pauses
+  pauses_kept : (stage : Stage) (budget : Budget) (found : Option Queue) (old new : Memory) (before after : WindowState)
+      (s : Disk) → found ≡ queue_at 0 before
+      → ServesTo stage (unasked_device device) budget 0 found More old new before after s s
+      → AheadIn before tokens
+      → AheadIn after tokens
+  pauses_kept First budget None old new before after s is h held = absurd h
+  pauses_kept Next budget None old new before after s is h held = absurd h
+  pauses_kept First budget (Some queue) old new before after s is h held =
+      open_kept before after queue h.last (sym is) h.window
+      (AreAhead-served (unasked_device device) (site_at old (opened old queue) s) (site_at new h.last s)
+      h.begins.pauses.course.chains tokens h.begins.pauses.course.serves
+      (AreAhead-opened_at First old queue tokens (there before queue is held)))
+  pauses_kept Next budget (Some queue) old new before after s is h held =
+      open_kept before after queue h.last (sym is) h.window
+      (AreAhead-served (unasked_device device) (site_at old queue s) (site_at new h.last s) h.pauses.course.chains tokens
+      h.pauses.course.serves (there before queue is held))
+
+stops_kept : (device : BlockDevice) (stage : Stage) (budget : Budget) (progress : Progress) (old new : HostedQueue)
+    (free : Option ℕ) → PieceStops free device stage budget progress old new
     → AheadIn old.window (tokens_of old.tags)
     → AheadIn new.window (tokens_of new.tags)
-end_kept device stage old new None same held =
+stops_kept device stage budget progress old new None h held =
     subst (λ (h : HostedQueue). IfSome (queue_at 0 h.window) (λ queue. AreAhead queue (tokens_of h.tags)))
-    (sym same) held
-end_kept device stage old new (Some tag) x held =
+    (sym h.1) held
+stops_kept device stage budget progress old new (Some tag) x held =
     subst (λ t. IfSome (queue_at 0 new.window) (λ queue. AreAhead queue (tokens_of t))) (sym x.tags)
-    (ends_kept device (tokens_of old.tags) stage (queue_at 0 old.window) old.memory new.memory old.window
-    new.window (extent_disk device.extent any_disk) refl (done_by stage (x.ends any_disk)) held)
+    (by_progress progress (x.stops any_disk))
   where
-    done_by : (stage : Stage)
-        → HostsTo device stage unlimited (queue_at 0 old.window) hosted.Done old.memory new.memory old.window
-        new.window [] [] any_disk
-        → ServesTo stage (unasked_device device) unlimited 0 (queue_at 0 old.window) Done old.memory new.memory
-        old.window new.window (extent_disk device.extent any_disk) (extent_disk device.extent any_disk)
-    done_by stage h = h
+    by_progress : (progress : Progress)
+        → HostsTo device stage budget (queue_at 0 old.window) (hosted_by progress) old.memory new.memory old.window
+        new.window [] [] any_disk → AheadIn new.window (tokens_of old.tags)
+    by_progress Done h =
+        ends_kept device (tokens_of old.tags) stage budget (queue_at 0 old.window) old.memory new.memory old.window
+        new.window (extent_disk device.extent any_disk) refl h held
+    by_progress More h =
+        pauses_kept device (tokens_of old.tags) stage budget (queue_at 0 old.window) old.memory new.memory old.window
+        new.window (extent_disk device.extent any_disk) refl h held
+
+pub ahead_looked_to : (device : BlockDevice) (stage : Stage) (budget : Budget) (progress : Progress) (old : HostedQueue)
+    (asked : List InFlight) (new : HostedQueue) → LooksTo device stage budget progress old asked new
+    → AheadIn old.window (tokens_of old.tags)
+    → AheadIn new.window (tokens_of new.tags)
+ahead_looked_to device stage budget progress old [] new looks held =
+    stops_kept device stage budget progress old new (free_tag old.tags) looks held
+ahead_looked_to device stage budget progress old (here ∷ asked) new looks held =
+    ahead_looked_to device Next looks.0 progress looks.1 asked new looks.3
+    (ahead_asked device stage old looks.1 here (asks_next device stage budget looks.0 old looks.1 here looks.2) held)
+
+end_stops : (device : BlockDevice) (stage : Stage) (old new : HostedQueue) (free : Option ℕ)
+    → LookEnds free device stage old new → PieceStops free device stage unlimited Done old new
+end_stops device stage old new None same = (refl, same)
+end_stops device stage old new (Some tag) x = record { stops = x.ends; tags = x.tags }
 
 pub ahead_looked : (device : BlockDevice) (stage : Stage) (old : HostedQueue) (asked : List InFlight)
     (new : HostedQueue) → LooksFrom device stage old asked new
     → AheadIn old.window (tokens_of old.tags)
     → AheadIn new.window (tokens_of new.tags)
 ahead_looked device stage old [] new looks held =
-    end_kept device stage old new (free_tag old.tags) looks held
+    stops_kept device stage unlimited Done old new (free_tag old.tags)
+    (end_stops device stage old new (free_tag old.tags) looks) held
 ahead_looked device stage old (here ∷ asked) new looks held =
     ahead_looked device Next looks.0 asked new looks.2
     (ahead_asked device stage old looks.0 here looks.1 held)

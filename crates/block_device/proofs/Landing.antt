@@ -10,13 +10,16 @@ use Rattle.mmio_window.proofs.Ahead.{is_ahead_in}
 use Rattle.mmio_window.specs.declared.queue.Token.{Token}
 use Rattle.block_device.specs.declared.hosting.Flight.{Flight}
 use Rattle.block_device.specs.declared.operation.Verdict.{Verdict}
+use Rattle.mmio_window.specs.declared.stage.Stage.{Stage}
 use Rattle.mmio_window.specs.declared.stage.Stage.TheVariants.{First}
+use Rattle.chain.specs.declared.budget.Budget.{Budget}
+use Rattle.chain.specs.declared.budget.Progress.{Progress}
 use Rattle.block_device.specs.declared.device.BlockDevice.{BlockDevice}
-use Rattle.block_device.specs.Flights.{AreHeld, HostedQueue, InFlight, IsLanding, IsLook, LandsBy}
+use Rattle.block_device.specs.Flights.{AreHeld, HostedQueue, InFlight, IsLanding, IsLook, IsLookTo, LandsBy}
 use Rattle.block_device.specs.Tags.{TagIsHeld, flight_in, token_in, tokens_of}
 use Rattle.block_device.specs.Hosting.{CompletesIn, IsInFlight}
 use Rattle.block_device.proofs.Freeing.{IsThere, is_there}
-use Rattle.block_device.proofs.Held.{ahead_landed, ahead_looked}
+use Rattle.block_device.proofs.Held.{ahead_landed, ahead_looked, ahead_looked_to}
 use Rattle.block_device.proofs.Holding.{all_set, one_held}
 
 pub in_flight : (capacity : ℕ) (m : Memory) (w : WindowState) (tags : List (Option InFlight)) (i : ℕ) (flight : Flight Token)
@@ -77,6 +80,14 @@ pub held_looked : (device : BlockDevice) (capacity : ℕ) (old new : HostedQueue
 held_looked device capacity old new look held each = record {
   each = each;
   ahead = ahead_looked device First old look.asked new look.looks held.ahead;
+}
+
+pub held_looked_to : (device : BlockDevice) (capacity : ℕ) (stage : Stage) (budget : Budget) (progress : Progress)
+    (old new : HostedQueue) → IsLookTo device stage budget progress old new
+    → AreHeld capacity old → All (TagIsHeld capacity new.memory) new.tags → AreHeld capacity new
+held_looked_to device capacity stage budget progress old new look held each = record {
+  each = each;
+  ahead = ahead_looked_to device stage budget progress old look.asked new look.looks held.ahead;
 }
 
 landed_tags : (found : Option Queue) (tag : ℕ) (here : InFlight) (verdict : Verdict) (old new : HostedQueue)

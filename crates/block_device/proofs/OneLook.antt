@@ -1,15 +1,18 @@
 -- A look at a queue of a disk that the host serves comes out in one way, since no chain that it serves asks
 -- for the disk; and so does a completion.
-use Rattle.std.proofs.Common.{◌≡◌, inl, inr, ◌↔◌, ℕ, zero, suc, ◌+◌, ◌-◌, Bool, true, false, Option, Some, None, List, [], ◌∷◌, length, drop, refl, sym, ap, subst, ◌∙◌, arith}
+use Rattle.std.proofs.Common.{◌≡◌, inl, inr, ◌↔◌, ℕ, zero, suc, ◌+◌, ◌-◌, ◌<◌, Bool, true, false, Option, Some, None, List, [], ◌∷◌, length, drop, take, refl, sym, ap, subst, ◌∙◌, arith}
 use Rattle.std.specs.Prelude.{IsTrue}
 use Rattle.std.proofs.lemmas.Option.{same_Some}
 use Rattle.guest_memory.specs.Memory.{Memory}
 use Rattle.chain.specs.declared.budget.Budget.{Budget}
+use Rattle.chain.specs.declared.budget.Progress.{Progress}
 use Rattle.chain.specs.declared.budget.Progress.TheVariants as progress
 use Rattle.chain.specs.declared.fault.Fault.{Fault}
 use Rattle.chain.specs.declared.segment.Buffer.{Buffer}
 use Rattle.chain.specs.declared.segment.Segment.{Segment}
+use Rattle.chain.specs.Budget.{IsSpent, chains_of, left_after}
 use Rattle.chain.specs.Bytes.{readable_of, writable_of}
+use Rattle.chain.specs.Pieces.{Pauses}
 use Rattle.chain.specs.Service.{Decides, Ending, Entry, Faulted, Given, HasAtMostOneAnswer, IsEnding, Refused, Served, ServesAll, ServesChain, Site, Spent, Works, after, close_site, open_site}
 use Rattle.chain.proofs.Servicing.{both, one_decided_service}
 use Rattle.mmio_window.specs.declared.queue.Queue.{Queue}
@@ -18,10 +21,11 @@ use Rattle.mmio_window.specs.declared.queue.Token.{Token}
 use Rattle.mmio_window.specs.declared.queue.Token.TheVariants as token
 use Rattle.mmio_window.specs.declared.stage.Stage.{Stage}
 use Rattle.mmio_window.specs.declared.stage.Stage.TheVariants.{First, Next}
-use Rattle.mmio_window.specs.Pieces.{IsFinishedWithin, IsNotifiedWithin, ServesTo, opened_at}
+use Rattle.mmio_window.specs.Pieces.{IsFinishedWithin, IsNotifiedWithin, PieceTo, ServesTo, opened_at}
 use Rattle.mmio_window.specs.Queue.{IsTaken, entry_of, queue_kind}
 use Rattle.mmio_window.specs.Serving.{IsNotified, after_service}
 use Rattle.mmio_window.specs.Window.{WindowState, with_ring}
+use Rattle.mmio_window.proofs.OnePiece.{piece_is_one}
 use Rattle.mmio_window.proofs.Pieces.{notified_once}
 use Rattle.mmio_window.proofs.QueueKind.{has_at_most_one_chain}
 use Rattle.sector_cache.specs.Disk.{Disk}
@@ -36,7 +40,7 @@ use Rattle.block_device.specs.declared.request.Request.TheVariants.{Rejected, Ge
 use Rattle.block_device.specs.Asking.{EndsUnasked, IsAsked, asks_image, unasked_device}
 use Rattle.block_device.specs.Device.{GivesBy, given_of}
 use Rattle.block_device.specs.Extent.{extent_disk}
-use Rattle.block_device.specs.Hosting.{AsksAt, AsksIn, CompletesIn, HasStatusAt, HostsTo, SameLook, StopsAt, at_disk, site_of, wants_stable}
+use Rattle.block_device.specs.Hosting.{AsksAt, AsksIn, AsksWithin, CompletesIn, HasStatusAt, HostsTo, SameLook, StopsAt, at_disk, site_of, wants_stable}
 use Rattle.block_device.specs.Operation.{operation_of}
 use Rattle.block_device.specs.Outcome.{Completes, Ends, Fails, Outcome, completed}
 use Rattle.block_device.specs.Request.{request_of, payload_of}
@@ -496,7 +500,7 @@ done_once device First budget found old m n before v w disk x y =
 done_once device Next budget found old m n before v w disk x y =
     finish_once device budget found old m n before v w disk x y
 
-asks_or_done : (device : BlockDevice) (stage : Stage) (budget : Budget) (found : Option Queue) (f : Flight Token)
+pub asks_or_done : (device : BlockDevice) (stage : Stage) (budget : Budget) (found : Option Queue) (f : Flight Token)
     (old m n : Memory) (before v w : WindowState) (b : List Buffer) (r : List Segment) (disk : Disk)
     → AsksIn device stage found old m before v b r f disk
     → ServesTo stage (unasked_device device) budget 0 found progress.Done old n before w
@@ -532,6 +536,151 @@ one_look device stage budget found (hosted.Asks f) hosted.More old m n before v 
 one_look device stage budget found hosted.Done hosted.More old m n before v w b c r s disk chains bytes x y =
     let d = extent_disk device.extent disk in
     absurd (never_more device stage budget found old n before w d d chains bytes y)
+
+-- ---- within a budget
+
+-- the chains before the one that asks are these alone
+same_chains : (device : BlockDevice) (start : Site Queue Disk) (cs ds : List (Served Disk)) (a b : Site Queue Disk)
+    → ServesAll queue_kind (unasked_device device) start cs a
+    → ServesAll queue_kind (unasked_device device) start ds b → AsksHere device a
+    → AsksHere device b → chains_of cs ≡ chains_of ds
+same_chains device start [] [] a b p q x y = refl
+same_chains device start [] (d ∷ ds) a b p q x y =
+    absurd (asks_serves device start d (subst (λ (s : Site Queue Disk). AsksHere device s) (sym p) x) q.0)
+same_chains device start (c ∷ cs) [] a b p q x y =
+    absurd (asks_serves device start c (subst (λ (s : Site Queue Disk). AsksHere device s) (sym q) y) p.0)
+same_chains device start (c ∷ cs) (d ∷ ds) a b p q x y =
+    let same = serves_once device start c d p.0 q.0 in
+    let rest = same_chains device (after queue_kind (unasked_device device) start c) cs ds a b p.1
+    (subst (λ (d : Served Disk). ServesAll queue_kind (unasked_device device)
+    (after queue_kind (unasked_device device) start d) ds b) (sym same) q.1) x y in
+    ap (λ l. c.buffers ∷ l) rest ∙ ap (λ (e : Served Disk). e.buffers ∷ chains_of ds) same
+
+-- No piece pauses before it, where what is spent there was spent by none of those chains.
+never_before : (device : BlockDevice) (Spends : List (List Buffer) → Type 0) (start : Site Queue Disk)
+    (cs ds : List (Served Disk)) (a b : Site Queue Disk)
+    → ((n : ℕ) → n < length (chains_of cs) → ¬ Spends (take n (chains_of cs))) → ¬ Spends (chains_of cs)
+    → ServesAll queue_kind (unasked_device device) start cs a
+    → ServesAll queue_kind (unasked_device device) start ds b → AsksHere device a
+    → Spends (chains_of ds) → ⊥
+never_before device Spends start [] [] a b within unspent p q x spent = unspent spent
+never_before device Spends start [] (d ∷ ds) a b within unspent p q x spent =
+    absurd (asks_serves device start d (subst (λ (s : Site Queue Disk). AsksHere device s) (sym p) x) q.0)
+never_before device Spends start (c ∷ cs) [] a b within unspent p q x spent = within 0 (omega arith) spent
+never_before device Spends start (c ∷ cs) (d ∷ ds) a b within unspent p q x spent =
+    let same = serves_once device start c d p.0 q.0 in
+    never_before device (λ l. Spends (c.buffers ∷ l)) (after queue_kind (unasked_device device) start c) cs ds a b
+    (λ n below. within (suc n) (omega (arith, below))) unspent p.1
+    (subst (λ (d : Served Disk). ServesAll queue_kind (unasked_device device)
+    (after queue_kind (unasked_device device) start d) ds b) (sym same) q.1) x
+    (subst (λ (e : Served Disk). Spends (e.buffers ∷ chains_of ds)) (sym same) spent)
+
+-- what is left of the budget is one
+pub left_once : (device : BlockDevice) (stage : Stage) (budget left rest : Budget) (found : Option Queue)
+    (f g : Flight Token) (old m n : Memory) (before v w : WindowState) (b c : List Buffer) (r s : List Segment)
+    (disk : Disk)
+    → AsksWithin device stage budget left found old m before v b r f disk
+    → AsksWithin device stage budget rest found old n before w c s g disk → left ≡ rest
+left_once device stage budget left rest found f g old m n before v w b c r s disk p q =
+    let x = p.asks in
+    let y = q.asks in
+    let queue : y.queue ≡ x.queue = same_Some y.queue x.queue (y.ready ∙ sym x.ready) in
+    let start : Site Queue Disk =
+    record (site_of device old x.queue disk) { ring = opened_at stage old x.queue } in
+    let chains : chains_of x.asks.stops.course.chains ≡ chains_of y.asks.stops.course.chains =
+    same_chains device start x.asks.stops.course.chains y.asks.stops.course.chains (site_of device m x.last disk)
+    (site_of device n y.last disk) x.asks.stops.course.serves
+    (subst (λ (k : Queue). ServesAll queue_kind (unasked_device device)
+    (record (site_of device old k disk) { ring = opened_at stage old k }) y.asks.stops.course.chains
+    (site_of device n y.last disk)) queue y.asks.stops.course.serves)
+    (asks_here device start (site_of device m x.last disk) b f.token x.request x.asks.stops)
+    (here_at (site_of device n y.last disk) c g.token y.request y.asks.stops.offers y.asks.stops.offered
+    y.asks.stops.asked) in
+    let buffers = (asks_once device stage found f g old m n before v w b c r s disk x y).buffers in
+    p.left_is ∙ rw (chains, buffers) refl ∙ sym q.left_is
+  where
+    here_at : (site : Site Queue Disk) (buffers : List Buffer) (token : Token) (request : Request)
+        → queue_kind.offers site.memory site.ring ≡ true
+        → queue_kind.Offers site.memory site.ring buffers (entry_of token)
+        → IsAsked device site.memory buffers request → AsksHere device site
+    here_at site buffers token request offers offered asked = record {
+      buffers = buffers;
+      entry = entry_of token;
+      request = request;
+      offers = offers;
+      offered = offered;
+      asked = asked;
+    }
+
+before_pause : (device : BlockDevice) (stage : Stage) (budget left : Budget) (queue : Queue) (f : Flight Token)
+    (old m n : Memory) (before v w : WindowState) (b : List Buffer) (r : List Segment) (disk : Disk) (last : Queue)
+    → AsksWithin device stage budget left (Some queue) old m before v b r f disk
+    → Pauses queue_kind (unasked_device device) budget
+    (record (site_of device old queue disk) { ring = opened_at stage old queue }) (site_of device n last disk) → ⊥
+before_pause device stage budget left queue f old m n before v w b r disk last x y =
+    let same : x.asks.queue ≡ queue = same_Some x.asks.queue queue x.asks.ready in
+    let stops = x.asks.asks.stops in
+    never_before device (λ l. IsSpent (left_after budget l))
+    (record (site_of device old x.asks.queue disk) { ring = opened_at stage old x.asks.queue }) stops.course.chains
+    y.course.chains (site_of device m x.asks.last disk) (site_of device n last disk) x.within x.unspent
+    stops.course.serves
+    (subst (λ (k : Queue). ServesAll queue_kind (unasked_device device)
+    (record (site_of device old k disk) { ring = opened_at stage old k }) y.course.chains (site_of device n last disk))
+    (sym same) y.course.serves)
+    (asks_here device (record (site_of device old x.asks.queue disk) { ring = opened_at stage old x.asks.queue })
+    (site_of device m x.asks.last disk) b f.token x.asks.request stops) y.spent
+
+-- a piece in which a chain asks doesn't pause
+pub asks_or_pauses : (device : BlockDevice) (stage : Stage) (budget left : Budget) (found : Option Queue)
+    (f : Flight Token) (old m n : Memory) (before v w : WindowState) (b : List Buffer) (r : List Segment) (disk : Disk)
+    → AsksWithin device stage budget left found old m before v b r f disk
+    → ServesTo stage (unasked_device device) budget 0 found progress.More old n before w
+    (extent_disk device.extent disk) (extent_disk device.extent disk) → ⊥
+asks_or_pauses device First budget left None f old m n before v w b r disk x y = let none = x.asks.ready in absurd (cc)
+asks_or_pauses device Next budget left None f old m n before v w b r disk x y = let none = x.asks.ready in absurd (cc)
+asks_or_pauses device First budget left (Some queue) f old m n before v w b r disk x y =
+    before_pause device First budget left queue f old m n before v w b r disk y.last x y.begins.pauses
+asks_or_pauses device Next budget left (Some queue) f old m n before v w b r disk x y =
+    before_pause device Next budget left queue f old m n before v w b r disk y.last x y.pauses
+
+-- or it stops in one way
+pub record SameStop (x y : Progress) (m n : Memory) (v w : WindowState) : Type 0 where
+  pub progress : x ≡ y
+  pub memory : m ≡ n
+  pub window : v ≡ w
+
+came_by : Option Ending → Progress
+came_by None = progress.More
+came_by (Some ending) = progress.Done
+
+record CameBy (device : BlockDevice) (stage : Stage) (budget : Budget) (found : Option Queue) (x : Progress)
+    (old new : Memory) (before after : WindowState) (s : Disk) : Type 0 where
+  how : Option Ending
+  piece : PieceTo stage (unasked_device device) budget 0 found how old new before after s s
+  is : x ≡ came_by how
+
+how_it_came : (device : BlockDevice) (stage : Stage) (budget : Budget) (found : Option Queue) (x : Progress)
+    (old new : Memory) (before after : WindowState) (s : Disk)
+    → ServesTo stage (unasked_device device) budget 0 found x old new before after s s
+    → CameBy device stage budget found x old new before after s
+unfolding came_by
+how_it_came device stage budget found progress.More old new before after s h =
+    record { how = None; piece = h; is = refl }
+how_it_came device First budget found progress.Done old new before after s h =
+    record { how = Some h.ending; piece = h.notified; is = refl }
+how_it_came device Next budget found progress.Done old new before after s h =
+    record { how = Some h.ending; piece = h.finished; is = refl }
+
+pub stops_once : (device : BlockDevice) (stage : Stage) (budget : Budget) (found : Option Queue) (x y : Progress)
+    (old m n : Memory) (before v w : WindowState) (s : Disk)
+    → ServesTo stage (unasked_device device) budget 0 found x old m before v s s
+    → ServesTo stage (unasked_device device) budget 0 found y old n before w s s → SameStop x y m n v w
+stops_once device stage budget found x y old m n before v w s p q =
+    let a = how_it_came device stage budget found x old m before v s p in
+    let b = how_it_came device stage budget found y old n before w s q in
+    let same = piece_is_one (unasked_device device) (unasked_once device) (decides device) budget 0 stage found a.how
+    b.how old m n before v w s s s a.piece b.piece in
+    record { progress = a.is ∙ ap came_by same.how ∙ sym b.is; memory = same.memory; window = same.window }
 
 -- ---- a completion
 

@@ -3,6 +3,8 @@
 use Rattle.std.specs.Prelude.{◌≡◌, ℕ, Option, Some, None, List, [], ◌∷◌, get_or, set, All, IfSome}
 use Rattle.guest_memory.specs.Memory.{Memory}
 use Rattle.chain.specs.declared.budget.Budget.{Budget}
+use Rattle.chain.specs.declared.budget.Progress.{Progress}
+use Rattle.chain.specs.declared.budget.Progress.TheVariants as came
 use Rattle.chain.specs.declared.segment.Buffer.{Buffer}
 use Rattle.sector_cache.specs.Disk.{Disk}
 use Rattle.mmio_window.specs.declared.queue.Queue.{Queue}
@@ -14,7 +16,7 @@ use Rattle.mmio_window.specs.Window.{WindowState, queue_at, with_reset_asked}
 use Rattle.block_device.specs.declared.device.BlockDevice.{BlockDevice}
 use Rattle.block_device.specs.declared.hosting.Hosted.TheVariants.{Asks, Done}
 use Rattle.block_device.specs.declared.operation.Verdict.{Verdict}
-use Rattle.block_device.specs.Hosting.{CompletesIn, HostsTo}
+use Rattle.block_device.specs.Hosting.{CompletesIn, HostsTo, HostsWithin, hosted_by}
 use Rattle.block_device.specs.Tags as tables
 use Rattle.block_device.specs.Tags.{TagIsHeld, free_tag, freed, tokens_of}
 
@@ -77,6 +79,53 @@ LooksAt device = LooksFrom device First
 pub record IsLook (device : BlockDevice) (old new : HostedQueue) : Type 0 where
   pub asked : List InFlight
   pub looks : LooksAt device old asked new
+
+-- ---- a piece of a look, within a budget
+
+-- The next chain asks within a budget, of which this is left behind it.
+pub record AsksNextWithin (device : BlockDevice) (stage : Stage) (budget left : Budget) (old : HostedQueue)
+    (here : InFlight) (new : HostedQueue) : Type 0 where
+  pub tag : ℕ
+  pub free : free_tag old.tags ≡ Some tag
+  pub buffers : List Buffer
+  pub asks :
+      (disk : Disk) → HostsWithin device stage budget left (queue_at 0 old.window) (Asks here.flight)
+      old.memory new.memory old.window new.window buffers here.runs disk
+  pub tags : new.tags ≡ set old.tags tag (Some here)
+
+-- Whichever chain it is, and whatever is left.
+pub record LooksOnWithin (device : BlockDevice) (stage : Stage) (budget left : Budget) (old new : HostedQueue)
+    : Type 0 where
+  pub here : InFlight
+  pub asks : AsksNextWithin device stage budget left old here new
+
+-- No further chain asks within the budget: the service ends, or the budget is spent and a chain is on offer.
+pub record StopsWithin (device : BlockDevice) (stage : Stage) (budget : Budget) (progress : Progress)
+    (old new : HostedQueue) : Type 0 where
+  pub stops :
+      (disk : Disk) → HostsTo device stage budget (queue_at 0 old.window) (hosted_by progress)
+      old.memory new.memory old.window new.window [] [] disk
+  pub tags : new.tags ≡ old.tags
+
+-- How the piece comes out, by whether a tag is free: where none is, the look is at its end.
+abbrev pub PieceStops : Option ℕ → BlockDevice → Stage → Budget → Progress → HostedQueue → HostedQueue → Type 0
+PieceStops None device stage budget progress old new = (progress ≡ came.Done) × (new ≡ old)
+PieceStops (Some tag) device stage budget progress old new = StopsWithin device stage budget progress old new
+
+-- From here on these chains ask within the budget, one after another, and then the piece is over. In a pause the queue
+-- stands open.
+abbrev pub LooksTo : BlockDevice → Stage → Budget → Progress → HostedQueue → List InFlight → HostedQueue → Type 0
+LooksTo device stage budget progress old [] new =
+    PieceStops (free_tag old.tags) device stage budget progress old new
+LooksTo device stage budget progress old (here ∷ asked) new =
+    (left : Budget) × (mid : HostedQueue) × AsksNextWithin device stage budget left old here mid
+    × LooksTo device Next left progress mid asked new
+
+-- from one state of the queue to another, whatever it asks for
+pub record IsLookTo (device : BlockDevice) (stage : Stage) (budget : Budget) (progress : Progress)
+    (old new : HostedQueue) : Type 0 where
+  pub asked : List InFlight
+  pub looks : LooksTo device stage budget progress old asked new
 
 -- ---- a landing
 

@@ -7,6 +7,7 @@ use Rattle.chain.specs.declared.budget.Progress.{Progress}
 use Rattle.chain.specs.declared.budget.Progress.TheVariants as progress
 use Rattle.chain.specs.declared.segment.Buffer.{Buffer}
 use Rattle.chain.specs.declared.segment.Segment.{Segment}
+use Rattle.chain.specs.Budget.{AreWithin, IsSpent, chains_of, left_after, less_chain}
 use Rattle.chain.specs.Buffers.{Good}
 use Rattle.chain.specs.Bytes.{readable_of, writable_of}
 use Rattle.chain.specs.Service.{Device, Site, Course, Spent, scattered, used_len, wrote}
@@ -110,6 +111,25 @@ HostsTo device stage budget found hosted.More old new before after buffers runs 
 HostsTo device stage budget found hosted.Done old new before after buffers runs disk =
     ServesTo stage (unasked_device device) budget 0 found progress.Done old new before after
     (extent_disk device.extent disk) (extent_disk device.extent disk)
+
+-- The chain asks within a budget: those before it are within that and haven't spent it, and this is left behind it.
+pub record AsksWithin (device : BlockDevice) (stage : Stage) (budget left : Budget) (found : Option Queue)
+    (old new : Memory) (before after : WindowState) (buffers : List Buffer) (runs : List Segment)
+    (flight : Flight Token) (disk : Disk) : Type 0 where
+  pub asks : AsksIn device stage found old new before after buffers runs flight disk
+  pub within : AreWithin budget (chains_of asks.asks.stops.course.chains)
+  pub unspent : ¬ IsSpent (left_after budget (chains_of asks.asks.stops.course.chains))
+  pub left_is : left ≡ less_chain (left_after budget (chains_of asks.asks.stops.course.chains)) buffers
+
+-- The piece within a budget, of which this is left where a chain asks.
+abbrev pub HostsWithin : BlockDevice → Stage → Budget → Budget → Option Queue → Hosted → Memory → Memory → WindowState
+    → WindowState → List Buffer → List Segment → Disk → Type 0
+HostsWithin device stage budget left found (hosted.Asks flight) old new before after buffers runs disk =
+    AsksWithin device stage budget left found old new before after buffers runs flight disk
+HostsWithin device stage budget left found hosted.More old new before after buffers runs disk =
+    HostsTo device stage budget found hosted.More old new before after buffers runs disk
+HostsWithin device stage budget left found hosted.Done old new before after buffers runs disk =
+    HostsTo device stage budget found hosted.Done old new before after buffers runs disk
 
 -- how a piece came out in which no chain asked
 abbrev pub hosted_by : Progress → Hosted

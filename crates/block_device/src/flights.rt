@@ -1,7 +1,7 @@
 //! The operations in flight of a disk that the host serves, in its window: what a look at the queue, a landing and a drop make of
 //! the tags.
 
-ghost use Rattle.std.specs.Prelude.{◌≡◌, ℕ, ◌*◌, ◌^◌, ◌<◌, [], All, List, Some, None, get_or, length};
+ghost use Rattle.std.specs.Prelude.{◌≡◌, ℕ, ◌*◌, ◌^◌, ◌<◌, [], All, IfNone, IfSome, List, Some, None, get_or, length};
 ghost use Rattle.std.specs.Bool.{OnTrue, OnFalse};
 ghost use Rattle.guest_memory.specs.Memory.{Memory, SameRange};
 ghost use Rattle.sector_cache.specs.Disk.{Disk};
@@ -11,15 +11,15 @@ ghost use Rattle.mmio_window.specs.declared.stage.Stage.TheVariants.{Next};
 ghost use Rattle.chain.specs.declared.segment.Buffer.{Buffer};
 ghost use Rattle.block_device.specs.declared.hosting.Hosted.{Hosted};
 ghost use Rattle.block_device.specs.Extent.{sector_len};
-ghost use Rattle.block_device.specs.Flights.{AreHeld, AsksNoMore, HostedQueue, InFlight, IsLanding, IsLook, LooksOn, given_up, unlimited};
+ghost use Rattle.block_device.specs.Flights.{AreHeld, HostedQueue, InFlight, IsLanding, IsLook, IsLookTo, LooksOnWithin, StopsWithin, given_up};
 ghost use Rattle.block_device.specs.Tags.{TagIsHeld, free_tag};
-ghost use Rattle.block_device.specs.Hosting.{HostsTo};
+ghost use Rattle.block_device.specs.Hosting.{HostsTo, HostsWithin, hosted_by};
 
 use crate::device::{BlockDevice, REQUESTQ};
 use crate::hosting::Hosted;
 use crate::operation::Verdict;
 use crate::tags::{Tag, Tags, with_tag};
-use chain::{Budget, Chain};
+use chain::{Budget, Chain, Progress};
 use guest_memory::GuestMemory;
 use mmio_window::{Stage, Token, Window};
 use std::alloc::{Allocator, Global};
@@ -30,7 +30,6 @@ pub type Flights<A = Global> = Tags<Token, u32, A>;
 impl BlockDevice {
     /// Looks at the queue: serves chains that ask for nothing, and puts those that ask into free tags, until none is on offer
     /// or no tag is free. `room` is for the buffers of each chain.
-    #[tactic(auto, using(crate::proofs::Looking::looks_first, crate::proofs::Looking::fewer_behind))]
     pub fn look<M: Allocator, A: Allocator>(
         &self,
         mem: &mut GuestMemory<M>,
@@ -48,77 +47,112 @@ impl BlockDevice {
         ensures range { SameRange mem.old mem.new }
         ensures sound { IsSound mem.new window.new }
     {
-        let mut stage = Stage::First;
+        let _ = self.look_piece(mem, window, Stage::First, Budget::UNLIMITED, flights, room);
+    }
+
+    /// Looks at the queue within a budget, of which each chain takes a part, whether it asks or not. In a pause the queue stands
+    /// open: the look goes on from `Stage::Next`.
+    #[tactic(auto, using(crate::proofs::Looking::looks_first, crate::proofs::Looking::fewer_behind))]
+    pub fn look_piece<M: Allocator, A: Allocator>(
+        &self,
+        mem: &mut GuestMemory<M>,
+        window: &mut Window,
+        stage: Stage,
+        budget: Budget,
+        flights: &mut Flights<A>,
+        room: &mut Chain,
+    ) -> Progress
+        requires sound { IsSound mem.old window.old }
+        requires disk { sector_len * self.now.extent.count < 2 ^ 64 }
+        requires held { AreHeld self.now.extent.count (record { memory = mem.old; window = window.old; tags = flights.old }) }
+        ensures looks { IsLookTo self.now stage budget result (record { memory = mem.old; window = window.old; tags = flights.old })
+            (record { memory = mem.new; window = window.new; tags = flights.new }) }
+        ensures held { AreHeld self.now.extent.count (record { memory = mem.new; window = window.new; tags = flights.new }) }
+        ensures depth { length flights.new ≡ length flights.old }
+        ensures range { SameRange mem.old mem.new }
+        ensures sound { IsSound mem.new window.new }
+    {
+        let mut stage = stage;
+        let mut left = budget;
         while let Some(tag) = flights.lowest_free() {
-            if !self.look_for(mem, window, stage, flights, tag, room) {
-                return;
+            if let Some(progress) = self.look_for(
+                mem, window, stage, &mut left, flights, tag, room,
+            ) {
+                return progress;
             }
             stage = behind_a_chain();
         }
+        Progress::Done
     }
 
-    // Looks for the next chain that asks, and puts it into this tag, which is the lowest free one. Answers whether there is one.
+    // Looks for the next chain that asks, and puts it into this tag, which is the lowest free one. Where none does within the budget
+    // it answers how the look stops.
     #[inline(always)]
     fn look_for<M: Allocator, A: Allocator>(
         &self,
         mem: &mut GuestMemory<M>,
         window: &mut Window,
         stage: Stage,
+        budget: &mut Budget,
         flights: &mut Flights<A>,
         tag: usize,
         room: &mut Chain,
-    ) -> bool
+    ) -> Option<Progress>
         requires sound { IsSound mem.old window.old }
         requires disk { sector_len * self.now.extent.count < 2 ^ 64 }
         requires lowest { free_tag flights.old ≡ Some tag }
         requires each { All (TagIsHeld self.now.extent.count mem.old) flights.old }
-        ensures asks { OnTrue result (LooksOn self.now stage (record { memory = mem.old; window = window.old; tags = flights.old })
+        ensures asks { IfNone result (LooksOnWithin self.now stage budget.old budget.new
+            (record { memory = mem.old; window = window.old; tags = flights.old })
             (record { memory = mem.new; window = window.new; tags = flights.new })) }
-        ensures ends { OnFalse result (AsksNoMore self.now stage (record { memory = mem.old; window = window.old; tags = flights.old })
+        ensures stops { IfSome result (λ progress. StopsWithin self.now stage budget.old progress
+            (record { memory = mem.old; window = window.old; tags = flights.old })
             (record { memory = mem.new; window = window.new; tags = flights.new })) }
         ensures each { All (TagIsHeld self.now.extent.count mem.new) flights.new }
         ensures range { SameRange mem.old mem.new }
         ensures sound { IsSound mem.new window.new }
     {
-        if !self.look_into(mem, window, stage, &mut flights.items[tag], room) {
-            return false;
+        let free = &mut flights.items[tag];
+        if let Some(progress) = self.look_into(mem, window, stage, budget, free, room) {
+            return Some(progress);
         }
         flights.taken = with_tag::<Token>(flights.taken, tag);
-        true
+        None
     }
 
-    // Looks for the next chain that asks, and puts it into this tag, which is free. Answers whether there is one.
+    // Looks for the next chain that asks, and puts it into this tag, which is free. Where none does it answers how the look stops.
     fn look_into<M: Allocator, A: Allocator>(
         &self,
         mem: &mut GuestMemory<M>,
         window: &mut Window,
         stage: Stage,
+        budget: &mut Budget,
         tag: &mut Tag<Token, u32, A>,
         room: &mut Chain,
-    ) -> bool
+    ) -> Option<Progress>
         requires sound { IsSound mem.old window.old }
         requires disk { sector_len * self.now.extent.count < 2 ^ 64 }
         requires free { tag.old ≡ None }
-        ensures asks { OnTrue result ((here : InFlight) × (buffers : List Buffer) × (tag.new ≡ Some here) × ((disk : Disk) →
-            HostsTo self.now stage unlimited (queue_at 0 window.old) (Hosted.Asks here.flight)
+        ensures asks { IfNone result ((here : InFlight) × (buffers : List Buffer) × (tag.new ≡ Some here) × ((disk : Disk) →
+            HostsWithin self.now stage budget.old budget.new (queue_at 0 window.old) (Hosted.Asks here.flight)
             mem.old mem.new window.old window.new buffers here.runs disk)) }
-        ensures ends { OnFalse result ((tag.new ≡ None) × ((disk : Disk) → HostsTo self.now stage unlimited
-            (queue_at 0 window.old) Hosted.Done mem.old mem.new window.old window.new [] [] disk)) }
+        ensures stops { IfSome result (λ progress. (tag.new ≡ None) × ((disk : Disk) → HostsTo self.now stage budget.old
+            (queue_at 0 window.old) (hosted_by progress) mem.old mem.new window.old window.new [] [] disk)) }
         ensures held { TagIsHeld self.now.extent.count mem.new tag.new }
         ensures range { SameRange mem.old mem.new }
         ensures sound { IsSound mem.new window.new }
     {
-        let hosted = self.host_piece(mem, window, stage, Budget::UNLIMITED, room, &mut tag.runs);
+        let hosted = self.host_piece(mem, window, stage, budget, room, &mut tag.runs);
         match hosted {
             Hosted::Asks(flight) => {
                 // What it ensures: there are fewer than 2^32 bytes.
                 let _ = room.buffers();
                 tag.flight = Some(flight);
                 tag.note = room.readable_len() as u32;
-                true
+                None
             }
-            Hosted::Done => false,
-            Hosted::More => unreachable!(),
+            Hosted::Done => Some(Progress::Done),
+            Hosted::More => Some(Progress::More),
         }
     }
 }

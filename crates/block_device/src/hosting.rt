@@ -10,7 +10,7 @@ ghost use Rattle.mmio_window.specs.Queue.{IsAhead, LiesIn, made_as};
 ghost use Rattle.mmio_window.specs.Soundness.{IsSound};
 ghost use Rattle.mmio_window.specs.Window.{queue_at};
 ghost use Rattle.block_device.specs.Extent.{sector_len};
-ghost use Rattle.block_device.specs.Hosting.{CompletesIn, HasStatusAt, HostsTo, IfAsks, IsGivenBack, IsInFlight, hosted_by};
+ghost use Rattle.block_device.specs.Hosting.{CompletesIn, HasStatusAt, HostsWithin, IfAsks, IsGivenBack, IsInFlight, hosted_by};
 ghost use Rattle.block_device.specs.Operation.{LiesInside};
 
 use crate::device::{BlockDevice, REQUESTQ};
@@ -62,20 +62,20 @@ impl Hosted {
 
 impl BlockDevice {
     /// Serves a piece of a service in the window of this device, up to a chain that asks for the disk and is in flight from
-    /// then on. Its buffers are left in `room`, and where the bytes of its operation lie in `runs`. The queue stands open, and
-    /// `Stage::Next` goes on behind the chain.
+    /// then on. Its buffers are left in `room`, where the bytes of its operation lie in `runs`, and what is left of the budget in
+    /// `budget`. The queue stands open, and `Stage::Next` goes on behind the chain.
     pub(crate) fn host_piece<M: Allocator>(
         &self,
         mem: &mut GuestMemory<M>,
         window: &mut Window,
         stage: Stage,
-        budget: Budget,
+        budget: &mut Budget,
         room: &mut Chain,
         runs: &mut Runs,
     ) -> Hosted
         requires sound { IsSound mem.old window.old }
         requires disk { sector_len * self.now.extent.count < 2 ^ 64 }
-        ensures served { (disk : Disk) → HostsTo self.now stage budget (queue_at 0 window.old) result
+        ensures served { (disk : Disk) → HostsWithin self.now stage budget.old budget.new (queue_at 0 window.old) result
             mem.old mem.new window.old window.new room.new runs.new disk }
         ensures flight { IfAsks (IsInFlight mem.new window.new) result }
 
@@ -91,8 +91,9 @@ impl BlockDevice {
             return Hosted::Done;
         };
         let mut device = OnHost { device: self };
-        match serve_queue(&mut device, runs, mem, queue, stage, budget, room) {
+        match serve_queue(&mut device, runs, mem, queue, stage, *budget, room) {
             Err(asked) => {
+                *budget = asked.left;
                 let operation = self.tell(room, asked.why, stable, runs);
                 queue.launch(&asked.token);
                 Hosted::Asks(Flight::of(asked.token, operation, room))

@@ -1,9 +1,11 @@
 //! Laws of the definitions. The bodies are empty: each contract is a theorem.
 
-ghost use Rattle.std.specs.Prelude.{◌≡◌, ◌≢◌, ◌⊎◌, ℕ, ◌+◌, ◌<◌, ◌≤◌, Bool, Contains, IfSome, true, false, List, ◌∷◌, Option, None, Some, get_or, length, map};
+ghost use Rattle.std.specs.Prelude.{◌≡◌, ◌≢◌, ◌⊎◌, ℕ, ◌+◌, ◌<◌, ◌≤◌, Bool, Contains, IfSome, true, false, List, ◌∷◌, ◌++◌, Option, None, Some, get_or, length, map};
 ghost use Rattle.std.specs.List.{slice_get};
 ghost use Rattle.guest_memory.specs.Memory.{Memory};
 ghost use Rattle.chain.specs.declared.budget.Budget.{Budget};
+ghost use Rattle.chain.specs.declared.budget.Progress.{Progress};
+ghost use Rattle.chain.specs.declared.budget.Progress.TheVariants.{Done, More};
 ghost use Rattle.chain.specs.declared.segment.Buffer.{Buffer};
 ghost use Rattle.chain.specs.declared.segment.Segment.{Segment};
 ghost use Rattle.chain.specs.Pieces.{GoesInPieces, IsOneService, Pause};
@@ -23,7 +25,7 @@ ghost use Rattle.block_device.specs.declared.operation.Verdict.{Verdict};
 ghost use Rattle.block_device.specs.Device.{GivesBy, HasAnswer, block_device, exact_device};
 ghost use Rattle.block_device.specs.Durable.{Completion, IsCommitted, IsUnwritten, KeepsWordIn, Medium, must_last};
 ghost use Rattle.block_device.specs.Extent.{SameSectors};
-ghost use Rattle.block_device.specs.Flights.{HostedQueue, InFlight, IsLanding, LooksAt};
+ghost use Rattle.block_device.specs.Flights.{HostedQueue, InFlight, IsLanding, LooksAt, LooksFrom, LooksTo, unlimited};
 ghost use Rattle.block_device.specs.Tags.{tokens_of};
 ghost use Rattle.block_device.specs.Hosting.{CompletesIn, FlightOutlasts, HonestHostServes, HostsTo, SameLook};
 ghost use Rattle.block_device.specs.Outcome.{Completes, Ends};
@@ -90,6 +92,25 @@ pub fn one_look()
 pub fn one_whole_look()
     ensures { (device : BlockDevice) (old one other : HostedQueue) (asked others : List InFlight)
         → LooksAt device old asked one → LooksAt device old others other → (asked ≡ others) × (one ≡ other) }
+{}
+
+/// The pieces of a look, one after another, are that look: a piece that pauses with one behind it (`pauses`), and one that comes
+/// to the end (`ends`). Without limits none pauses (`whole`).
+pub fn pieces_are_one_look()
+    ensures pauses { (device : BlockDevice) (stage : Stage) (budget : Budget) (old mid new : HostedQueue)
+        (asked later : List InFlight) → LooksTo device stage budget More old asked mid
+        → LooksFrom device Stage.Next mid later new → LooksFrom device stage old (asked ++ later) new }
+    ensures ends { (device : BlockDevice) (stage : Stage) (budget : Budget) (old new : HostedQueue) (asked : List InFlight)
+        → LooksTo device stage budget Done old asked new → LooksFrom device stage old asked new }
+    ensures whole { (device : BlockDevice) (stage : Stage) (progress : Progress) (old new : HostedQueue)
+        (asked : List InFlight) → LooksTo device stage unlimited progress old asked new → progress ≡ Done }
+{}
+
+/// A piece of a look within a budget comes out in at most one way: the same chains ask, and it pauses or doesn't.
+pub fn one_piece_of_a_look()
+    ensures { (device : BlockDevice) (stage : Stage) (budget : Budget) (x y : Progress) (old one other : HostedQueue)
+        (asked others : List InFlight) → LooksTo device stage budget x old asked one
+        → LooksTo device stage budget y old others other → (x ≡ y) × (asked ≡ others) × (one ≡ other) }
 {}
 
 /// A look keeps what is in flight between the next used entry and the next chain, and the chains that ask are too.

@@ -81,7 +81,7 @@ module _ (stage : Stage) (budget : Budget) (progress : Progress) (m m' : Memory)
   model_keeps (Entropy pool) zero w w' model' h = ap image_of h.is
   model_keeps (Entropy pool) (suc q) w w' model' h = ap image_of h.1.state
   model_keeps (Network card) q w w' model' h = ap image_of h.is
-  model_keeps (Block disk) q w w' model' h = ap image_of h.1.is
+  model_keeps (Block disk) q w w' model' h = ap image_of h.is
   model_keeps (Console terminal) q w w' model' h = ap image_of h.is
   model_keeps (Image disk) q w w' model' h = ap image_of h.1.state
 

@@ -22,8 +22,8 @@ use Rattle.console_device.proofs.Services.{receive_once as input_once, within_on
 use Rattle.network_device.specs.Device.{Passing, emptied, passing, receive, transmit}
 use Rattle.network_device.specs.Receiving.{ReceivesTo}
 use Rattle.network_device.proofs.Answering.{receive_once, transmit_once}
-use Rattle.hosted_disk.specs.Disk.{HostedDisk, ServesDisk}
-use Rattle.hosted_disk.proofs.One.{serve_disk}
+use Rattle.hosted_disk.specs.Disk.{HostedDisk, ServesDiskTo}
+use Rattle.hosted_disk.proofs.One.{piece_disk}
 use Rattle.device_list.specs.Card.{Card, CardServesTo, ReceivesFramesTo, card_limits}
 use Rattle.device_list.specs.Device.{DeviceServesTo, DeviceState}
 use Rattle.device_list.specs.List.{At, DevicesServeTo, IsNoneServed, ServesAny}
@@ -243,13 +243,13 @@ model_once stage budget x y (NetworkModel card) q m n o u v w one other a b =
     as_once NetworkModel (CardServesTo stage budget x card q m n u v) (CardServesTo stage budget y card q m o u w) x y n
     o v w one other (λ s t k l. card_once stage budget x y card q m n o u v w s t k l) a b
 model_once stage budget x y (BlockModel disk) q m n o u v w one other a b =
-    as_once BlockModel (ServesDisk disk q m n u v) (ServesDisk disk q m o u w) x y n o v w one other
-    (λ s t k l. (let same = serve_disk disk s t q m n o u v w k l in record {
-      progress = a.0 ∙ sym b.0;
-      memory = same.memory;
-      window = same.window;
-      state = same.state;
-    })) a.1 b.1
+    as_once BlockModel (ServesDiskTo stage budget x disk q m n u v) (ServesDiskTo stage budget y disk q m o u w) x y n o
+    v w one other (λ s t k l. (let same = piece_disk stage budget x y disk s t q m n o u v w k l in record {
+      progress = same.progress;
+      memory = same.ends.memory;
+      window = same.ends.window;
+      state = same.ends.state;
+    })) a b
 model_once stage budget x y (ConsoleModel terminal) q m n o u v w one other a b =
     as_once ConsoleModel (TerminalServesTo stage budget x terminal q m n u v)
     (TerminalServesTo stage budget y terminal q m o u w) x y n o v w one other

@@ -17,10 +17,8 @@ use Rattle.mmio_window.proofs.Underway as underway
 use Rattle.entropy_device.specs.Device.{entropy}
 use Rattle.console_device.specs.Device as console
 use Rattle.network_device.specs.Device.{Passing, passing, receive, receive_fitting, transmit}
-use Rattle.block_device.specs.declared.device.BlockDevice.{BlockDevice}
-use Rattle.block_device.specs.Flights.{HostedQueue}
-use Rattle.hosted_disk.specs.Disk.{HostedDisk, LooksUnless, ServesDisk, queue_of}
-use Rattle.hosted_disk.proofs.Windows.{looked_keeps}
+use Rattle.hosted_disk.specs.Disk.{HostedDisk, ServesDisk, ServesDiskTo}
+use Rattle.hosted_disk.proofs.Pieces.{DiskUnderWay, disk_again, disk_by_limit, disk_ended, disk_first, disk_keeps, disk_once}
 use Rattle.device_list.specs.Card.{Card, CardServesTo, ReceivesFramesTo, ServesCard, card_limits}
 use Rattle.device_list.specs.Device.{DeviceServesTo, DeviceState, ServesDevice}
 use Rattle.device_list.specs.List.{At, DevicesServeTo, ServesAny, changed_at}
@@ -57,12 +55,11 @@ TerminalUnderWay terminal (suc zero) m m' w w' terminal' =
     terminal'
 TerminalUnderWay terminal (suc (suc q)) m m' w w' terminal' = ⊥
 
--- A look of a disk that the host serves is never cut.
 abbrev pub ModelUnderWay : ModelState → ℕ → Memory → Memory → WindowState → WindowState → ModelState → Type 0
 ModelUnderWay (Entropy pool) zero m m' w w' model' = IsUnderWay entropy 0 Entropy pool m m' w w' model'
 ModelUnderWay (Entropy pool) (suc q) m m' w w' model' = ⊥
 ModelUnderWay (Network card) q m m' w w' model' = ServesAs Network (CardUnderWay card q m m' w w') model'
-ModelUnderWay (Block disk) q m m' w w' model' = ⊥
+ModelUnderWay (Block disk) q m m' w w' model' = ServesAs Block (DiskUnderWay disk q m m' w w') model'
 ModelUnderWay (Console terminal) q m m' w w' model' =
     ServesAs Console (TerminalUnderWay terminal q m m' w w') model'
 ModelUnderWay (Image disk) q m m' w w' model' = ⊥
@@ -164,22 +161,25 @@ terminal_joins terminal (suc (suc q)) =
     at_once (TerminalPieces (suc (suc q))) terminal (ServesTerminal terminal (suc (suc q)))
     (λ stage budget progress m m' w w' after h. h) (λ m m' w w' after h. nothing_keeps m m' w w' terminal after h)
 
+-- ---- of a disk's that its host serves
+
+abbrev DiskPieces : ℕ → Pieces HostedDisk
+DiskPieces q stage budget progress disk m m' w w' after = ServesDiskTo stage budget progress disk q m m' w w' after
+
+disk_joins : (disk : HostedDisk) (q : ℕ) → Joins (DiskPieces q) disk (DiskUnderWay disk q) (ServesDisk disk q)
+disk_joins disk q = record {
+  once = λ budget m m' w w' after h. disk_once budget disk q m m' w w' after h;
+  first = λ budget m m' w w' after h. disk_first budget disk q m m' w w' after h;
+  again = λ budget m0 m1 m2 w0 w1 w2 now after u h. disk_again budget disk q m0 m1 m2 w0 w1 w2 now after u h;
+  ended = λ budget m0 m1 m2 w0 w1 w2 now after u h. disk_ended budget disk q m0 m1 m2 w0 w1 w2 now after u h;
+  by_limit = λ stage budget m m' w w' after h. disk_by_limit stage budget disk q m m' w w' after h;
+  keeps = λ stage budget progress m m' w w' after h. disk_keeps stage budget progress disk q m m' w w' after h;
+}
+
 -- ---- of a device's, whichever it is
 
 abbrev ModelPieces : ℕ → Pieces ModelState
 ModelPieces q stage budget progress model m m' w w' after = ModelServesTo stage budget progress model q m m' w w' after
-
-unless_keeps : (on_hold : Bool) (device : BlockDevice) (old new : HostedQueue) → LooksUnless on_hold device old new
-    → KeepsDevice old.window new.window
-unless_keeps true device old new h =
-    subst (λ (q : HostedQueue). KeepsDevice old.window q.window) (sym h) (KeepsDevice-self old.window)
-unless_keeps false device old new h = looked_keeps device old new h
-
-disk_keeps : (disk : HostedDisk) (q : ℕ) (m m' : Memory) (w w' : WindowState) (after : HostedDisk)
-    → ServesDisk disk q m m' w w' after → KeepsDevice w w'
-disk_keeps disk zero m m' w w' after h =
-    unless_keeps disk.on_hold disk.device (queue_of m w disk) (queue_of m' w' after) h.looks
-disk_keeps disk (suc q) m m' w w' after h = nothing_keeps m m' w w' disk after h
 
 pub model_joins : (model : ModelState) (q : ℕ) → Joins (ModelPieces q) model (ModelUnderWay model q) (Serves model q)
 model_joins (Entropy pool) zero =
@@ -195,8 +195,8 @@ model_joins (Network card) q =
     as_type Network (CardPieces q) (ModelPieces q) (λ stage budget progress now m m' w w' after h. h) card
     (CardUnderWay card q) (ServesCard card q) (card_joins card q)
 model_joins (Block disk) q =
-    at_once (ModelPieces q) (Block disk) (Serves (Block disk) q) (λ stage budget progress m m' w w' after h. h)
-    (λ m m' w w' after h. disk_keeps disk q m m' w w' h.after h.serves)
+    as_type Block (DiskPieces q) (ModelPieces q) (λ stage budget progress now m m' w w' after h. h) disk
+    (DiskUnderWay disk q) (ServesDisk disk q) (disk_joins disk q)
 model_joins (Console terminal) q =
     as_type Console (TerminalPieces q) (ModelPieces q) (λ stage budget progress now m m' w w' after h. h) terminal
     (TerminalUnderWay terminal q) (ServesTerminal terminal q) (terminal_joins terminal q)

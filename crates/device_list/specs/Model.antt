@@ -23,7 +23,7 @@ use Rattle.block_device.specs.declared.device.BlockDevice.{BlockDevice}
 use Rattle.block_device.specs.Config as block
 use Rattle.block_device.specs.Tags.{is_any}
 use Rattle.hosted_disk.specs.Disk as hosted
-use Rattle.hosted_disk.specs.Disk.{HoldsFlights, HostedDisk, ServesDisk, fresh_disk}
+use Rattle.hosted_disk.specs.Disk.{HoldsFlights, HostedDisk, ServesDisk, ServesDiskTo, fresh_disk}
 use Rattle.device_list.specs.declared.model.DeviceModel.{DeviceModel}
 use Rattle.device_list.specs.declared.model.DeviceModel.TheVariants as model
 use Rattle.device_list.specs.declared.spec.DeviceSpec.{DeviceSpec}
@@ -136,11 +136,11 @@ ModelServesIn world stage limits progress (Console terminal) q m m' w w' model' 
 ModelServesIn world stage limits progress (Image disk) q m m' w w' model' = (progress ≡ Done)
     × world.NothingHappens m m' w w' (Image disk) model'
 
--- The same of a guest that stands still, within a budget: it has disks that their host serves. A look of one is never cut.
+-- The same of a guest that stands still, within a budget: it has disks that their host serves.
 abbrev pub ModelServesTo : Stage → Budget → Progress → ModelState → ℕ → Memory → Memory → WindowState → WindowState
     → ModelState → Type 0
-ModelServesTo stage budget progress (Block disk) q m m' w w' model' = (progress ≡ Done)
-    × ServesAs Block (ServesDisk disk q m m' w w') model'
+ModelServesTo stage budget progress (Block disk) q m m' w w' model' =
+    ServesAs Block (ServesDiskTo stage budget progress disk q m m' w w') model'
 ModelServesTo stage budget progress model q m m' w w' model' =
     ModelServesIn standing stage (one_round budget) progress model q m m' w w' model'
 

@@ -131,7 +131,7 @@ impl<A: Allocator> DeviceList<A> {
     }
 
     /// Serves a piece of a device's queue, within the budget. Of a device that isn't there nothing is served, nor of a disk over the
-    /// image, which `serve_image` serves. Of a disk that the host serves a look is never cut. In a pause the queue stands open, and
+    /// image, which `serve_image` serves. In a pause the queue stands open, and
     /// its device's window is left alone. `room` is where the chains stand, one after another.
     #[inline(always)]
     pub fn serve<M: Allocator>(

@@ -157,8 +157,8 @@ impl<A: Allocator> DeviceModel<A> {
         }
     }
 
-    /// Serves a piece of the queue of this number in its window, within the budget. A look of a disk is never cut, and of a disk over
-    /// the image nothing is served. `room` is where the chains stand, one after another.
+    /// Serves a piece of the queue of this number in its window, within the budget. Of a disk over the image nothing is served.
+    /// `room` is where the chains stand, one after another.
     #[inline(never)]
     pub(crate) fn serve<M: Allocator>(
         &mut self,
@@ -179,8 +179,7 @@ impl<A: Allocator> DeviceModel<A> {
         ensures held { IsHeld mem.new window.new (state_of self.new) }
     {
         if let DeviceModel::Block(disk) = self {
-            disk.serve(q, mem, window, room);
-            return Progress::Done;
+            return disk.serve_piece(q, mem, window, stage, budget, room);
         }
         let limits = Limits { budget, rounds: 1 };
         self.serve_in(q, mem, window, stage, limits, room, &mut ())

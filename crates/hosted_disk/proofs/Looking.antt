@@ -1,26 +1,31 @@
 -- What each piece of a look leaves, a look leaves too, and so does a landing; and a tag that is taken stays so.
 use Rattle.std.proofs.Common.{◌≡◌, ◌≢◌, ◌∙◌, ℕ, Bool, true, false, Option, Some, None, List, [], ◌∷◌, get_or, set, sym, ap, subst}
 use Rattle.std.proofs.lemmas.List.{get_or-set_other}
+use Rattle.chain.specs.declared.budget.Budget.{Budget}
+use Rattle.chain.specs.declared.budget.Progress.{Progress}
+use Rattle.chain.specs.declared.budget.Progress.TheVariants.{Done}
 use Rattle.mmio_window.specs.declared.queue.Queue.{Queue}
 use Rattle.mmio_window.specs.declared.stage.Stage.{Stage}
 use Rattle.mmio_window.specs.declared.stage.Stage.TheVariants.{First, Next}
 use Rattle.mmio_window.specs.Window.{queue_at}
 use Rattle.block_device.specs.declared.device.BlockDevice.{BlockDevice}
 use Rattle.block_device.specs.declared.operation.Verdict.{Verdict}
-use Rattle.block_device.specs.Flights.{AsksNext, AsksNoMore, HostedQueue, InFlight, IsGivenIn, IsLanding, IsLook, LandsBy, LookEnds, LooksFrom}
+use Rattle.block_device.specs.Flights.{AsksNext, HostedQueue, InFlight, IsGivenIn, IsLanding, IsLook, LandsBy, LookEnds, LooksFrom, LooksTo, PieceStops, StopsWithin, unlimited}
 use Rattle.block_device.specs.Tags.{free_tag}
 use Rattle.block_device.proofs.Freeing.{is_free}
-use Rattle.hosted_disk.specs.Disk.{LooksUnless}
+use Rattle.block_device.proofs.Looking.{asks_next}
+use Rattle.hosted_disk.specs.Disk.{LooksUnless, LooksUnlessTo}
 
--- It holds of what stays, of two steps if of each, of a chain that asks, and of the end of a look.
+-- It holds of what stays, of two steps if of each, of a chain that asks, and where no further one does.
 pub record IsLeftByLooks (K : HostedQueue → HostedQueue → Type 0) : Type 0 where
   pub none : (q : HostedQueue) → K q q
   pub both : (a b c : HostedQueue) → K a b → K b c → K a c
   pub asks :
       (device : BlockDevice) (stage : Stage) (old : HostedQueue) (here : InFlight) (new : HostedQueue)
       → AsksNext device stage old here new → K old new
-  pub ends :
-      (device : BlockDevice) (stage : Stage) (old new : HostedQueue) → AsksNoMore device stage old new → K old new
+  pub stops :
+      (device : BlockDevice) (stage : Stage) (budget : Budget) (progress : Progress) (old new : HostedQueue)
+      → StopsWithin device stage budget progress old new → K old new
 
 -- what a chain that is given back leaves, and a tag that is only freed
 pub record IsLeftByLandings (K : HostedQueue → HostedQueue → Type 0) : Type 0 where
@@ -33,7 +38,8 @@ module _ (K : HostedQueue → HostedQueue → Type 0) (left : IsLeftByLooks K) w
   ends_left : (free : Option ℕ) (device : BlockDevice) (stage : Stage) (old new : HostedQueue)
       → LookEnds free device stage old new → K old new
   ends_left None device stage old new h = subst (K old) (sym h) (left.none old)
-  ends_left (Some tag) device stage old new h = left.ends device stage old new h
+  ends_left (Some tag) device stage old new h =
+      left.stops device stage unlimited Done old new (record { stops = h.ends; tags = h.tags })
 
   pub from_left : (device : BlockDevice) (stage : Stage) (old : HostedQueue) (asked : List InFlight) (new : HostedQueue)
       → LooksFrom device stage old asked new → K old new
@@ -48,6 +54,27 @@ module _ (K : HostedQueue → HostedQueue → Type 0) (left : IsLeftByLooks K) w
       → LooksUnless on_hold device old new → K old new
   unless_left true device old new h = subst (K old) (sym h) (left.none old)
   unless_left false device old new h = look_left device old new h
+
+  -- and a piece of a look
+  stops_left : (free : Option ℕ) (device : BlockDevice) (stage : Stage) (budget : Budget) (progress : Progress)
+      (old new : HostedQueue) → PieceStops free device stage budget progress old new → K old new
+  stops_left None device stage budget progress old new h = subst (K old) (sym h.1) (left.none old)
+  stops_left (Some tag) device stage budget progress old new h = left.stops device stage budget progress old new h
+
+  to_left : (device : BlockDevice) (stage : Stage) (budget : Budget) (progress : Progress) (old : HostedQueue)
+      (asked : List InFlight) (new : HostedQueue) → LooksTo device stage budget progress old asked new → K old new
+  to_left device stage budget progress old [] new h =
+      stops_left (free_tag old.tags) device stage budget progress old new h
+  to_left device stage budget progress old (here ∷ asked) new h =
+      left.both old h.1 new
+      (left.asks device stage old here h.1 (asks_next device stage budget h.0 old h.1 here h.2))
+      (to_left device Next h.0 progress h.1 asked new h.3)
+
+  pub unless_to_left : (on_hold : Bool) (device : BlockDevice) (stage : Stage) (budget : Budget) (progress : Progress)
+      (old new : HostedQueue) → LooksUnlessTo on_hold device stage budget progress old new → K old new
+  unless_to_left true device stage budget progress old new h = subst (K old) (sym h.1) (left.none old)
+  unless_to_left false device stage budget progress old new h =
+      to_left device stage budget progress old h.asked new h.looks
 
   module _ (landings : IsLeftByLandings K) where
     lands_left : (found : Option Queue) (tag : ℕ) (here : InFlight) (verdict : Verdict) (old new : HostedQueue)
@@ -90,7 +117,7 @@ keeps_tag tag = record {
   none = λ q here is. is;
   both = λ a b c one other here is. other here (one here is);
   asks = λ device stage old here new next. asks_keeps tag device stage old here new next;
-  ends = λ device stage old new no_more. same_tags tag old new no_more.tags;
+  stops = λ device stage budget progress old new no_more. same_tags tag old new no_more.tags;
 }
 
 -- the landing of another tag keeps it

@@ -3,6 +3,9 @@ use Rattle.std.proofs.Common.{◌≡◌, Bool, true, false, ℕ, zero, suc, Opti
 use Rattle.std.proofs.lemmas.Option.{same_Some}
 use Rattle.guest_memory.specs.Memory.{Memory}
 use Rattle.mmio_window.specs.declared.queue.Queue.{Queue}
+use Rattle.chain.specs.declared.budget.Budget.{Budget}
+use Rattle.chain.specs.declared.budget.Progress.{Progress}
+use Rattle.mmio_window.specs.declared.stage.Stage.{Stage}
 use Rattle.mmio_window.specs.declared.stage.Stage.TheVariants.{First}
 use Rattle.mmio_window.specs.Window.{WindowState, queue_at}
 use Rattle.mmio_window.proofs.OneEnd.{SameEnd}
@@ -10,10 +13,10 @@ use Rattle.block_device.specs.declared.device.BlockDevice.{BlockDevice}
 use Rattle.block_device.specs.declared.operation.Verdict.{Verdict}
 use Rattle.block_device.specs.Flights.{HostedQueue, InFlight, IsLanding, IsLook, LandsBy}
 use Rattle.block_device.proofs.OneLook.{one_completion}
-use Rattle.block_device.proofs.WholeLooks.{looks_once}
+use Rattle.block_device.proofs.WholeLooks.{looks_once, piece_of_look_once}
 use Rattle.block_device.specs.declared.operation.HostEvent.{HostEvent}
 use Rattle.block_device.specs.declared.operation.HostEvent.TheVariants.{Complete, Drop, Hold, Release}
-use Rattle.hosted_disk.specs.Disk.{HostedDisk, LooksAtQueue, LooksUnless, ServesDisk, queue_of}
+use Rattle.hosted_disk.specs.Disk.{HostedDisk, LooksAtQueue, LooksUnless, LooksUnlessTo, ServesDisk, ServesDiskTo, queue_of}
 use Rattle.hosted_disk.specs.Told.{DoesAsTold, QueueTold, held_by}
 
 pub look_queue : (device : BlockDevice) (old one other : HostedQueue) → IsLook device old one → IsLook device old other
@@ -66,6 +69,48 @@ serve_disk disk one other (suc q) m n o u v w x y = record {
   memory = x.memory ∙ sym y.memory;
   window = x.window ∙ sym y.window;
   state = x.state ∙ sym y.state;
+}
+
+-- a piece of that, within a budget
+pub record SamePiece (x y : Progress) (n o : Memory) (v w : WindowState) (one other : HostedDisk) : Type 0 where
+  pub progress : x ≡ y
+  pub ends : SameEnd n o v w one other
+
+record SameCut (x y : Progress) (one other : HostedQueue) : Type 0 where
+  progress : x ≡ y
+  queue : one ≡ other
+
+unless_piece : (on_hold : Bool) (device : BlockDevice) (stage : Stage) (budget : Budget) (x y : Progress)
+    (old one other : HostedQueue) → LooksUnlessTo on_hold device stage budget x old one
+    → LooksUnlessTo on_hold device stage budget y old other → SameCut x y one other
+unless_piece true device stage budget x y old one other p q =
+    record { progress = p.0 ∙ sym q.0; queue = p.1 ∙ sym q.1 }
+unless_piece false device stage budget x y old one other p q =
+    let same = piece_of_look_once device stage budget x y old p.asked q.asked one other p.looks q.looks in
+    record { progress = same.progress; queue = same.queue }
+
+pub piece_disk : (stage : Stage) (budget : Budget) (x y : Progress) (disk one other : HostedDisk) (q : ℕ)
+    (m n o : Memory) (u v w : WindowState)
+    → ServesDiskTo stage budget x disk q m n u v one → ServesDiskTo stage budget y disk q m o u w other
+    → SamePiece x y n o v w one other
+piece_disk stage budget x y disk one other zero m n o u v w p q =
+    let same = unless_piece disk.on_hold disk.device stage budget x y (queue_of m u disk) (queue_of n v one)
+    (queue_of o w other) p.looks q.looks in
+    record {
+      progress = same.progress;
+      ends = record {
+        memory = ap (λ (k : HostedQueue). k.memory) same.queue;
+        window = ap (λ (k : HostedQueue). k.window) same.queue;
+        state = p.is ∙ ap (λ (k : HostedQueue). record disk { tags = k.tags }) same.queue ∙ sym q.is;
+      };
+    }
+piece_disk stage budget x y disk one other (suc n') m n o u v w p q = record {
+  progress = p.0 ∙ sym q.0;
+  ends = record {
+    memory = p.1.memory ∙ sym q.1.memory;
+    window = p.1.window ∙ sym q.1.window;
+    state = p.1.state ∙ sym q.1.state;
+  };
 }
 
 told_queue : (said : HostEvent) (device : BlockDevice) (on_hold : Bool) (old one other : HostedQueue)

@@ -3,6 +3,7 @@ use Rattle.std.proofs.Common.{◌≡◌, ℕ, Bool, true, false, List, [], Optio
 use Rattle.std.specs.Bool.{OnTrue, OnFalse}
 use Rattle.guest_memory.specs.Memory.{Memory}
 use Rattle.chain.specs.declared.budget.Budget.{Budget}
+use Rattle.chain.specs.declared.budget.Progress.{Progress}
 use Rattle.chain.specs.declared.budget.Progress.TheVariants as progress
 use Rattle.chain.specs.declared.segment.Buffer.{Buffer}
 use Rattle.chain.specs.declared.segment.Segment.{Segment}
@@ -26,11 +27,11 @@ use Rattle.block_device.specs.declared.operation.HostEvent.TheVariants.{Complete
 use Rattle.block_device.specs.declared.operation.Verdict.{Verdict}
 use Rattle.block_device.specs.Asking.{unasked_device}
 use Rattle.block_device.specs.Flights.{HostedQueue, InFlight, IsLanding, IsLook, given_up, unlimited}
-use Rattle.block_device.specs.Hosting.{CompletesIn, HostsTo}
+use Rattle.block_device.specs.Hosting.{CompletesIn, HostsTo, hosted_by}
 use Rattle.block_device.proofs.Unasked.{any_disk}
-use Rattle.hosted_disk.specs.Disk.{LooksUnless}
+use Rattle.hosted_disk.specs.Disk.{LooksUnless, LooksUnlessTo}
 use Rattle.hosted_disk.specs.Told.{QueueTold}
-use Rattle.hosted_disk.proofs.Looking.{IsLeftByLandings, IsLeftByLooks, landing_left, look_left, unless_left}
+use Rattle.hosted_disk.proofs.Looking.{IsLeftByLandings, IsLeftByLooks, landing_left, look_left, unless_left, unless_to_left}
 
 registers_kept : (kind : DeviceKind) (change : QueueRegisters → QueueRegisters) (w : WindowState)
     → KeepsDevice w (with_registers_in (queue_of kind 0) change w)
@@ -94,9 +95,9 @@ keeps_device = record {
   asks = λ device stage old here new next.
       KeepsDevice-hosts device stage unlimited (queue_at 0 old.window) (Asks here.flight) old.memory new.memory
       old.window new.window next.buffers here.runs any_disk (next.asks any_disk);
-  ends = λ device stage old new no_more.
-      KeepsDevice-hosts device stage unlimited (queue_at 0 old.window) Done old.memory new.memory old.window
-      new.window [] [] any_disk (no_more.ends any_disk);
+  stops = λ device stage budget progress old new no_more.
+      KeepsDevice-hosts device stage budget (queue_at 0 old.window) (hosted_by progress) old.memory new.memory old.window
+      new.window [] [] any_disk (no_more.stops any_disk);
 }
 
 landing_keeps : IsLeftByLandings SameDevice
@@ -123,6 +124,12 @@ landed_keeps false tag verdict old new lands same =
 unless_keeps : (on_hold : Bool) (device : BlockDevice) (old new : HostedQueue) → LooksUnless on_hold device old new
     → KeepsDevice old.window new.window
 unless_keeps on_hold device old new h = unless_left SameDevice keeps_device on_hold device old new h
+
+pub piece_keeps : (on_hold : Bool) (device : BlockDevice) (stage : Stage) (budget : Budget) (progress : Progress)
+    (old new : HostedQueue) → LooksUnlessTo on_hold device stage budget progress old new
+    → KeepsDevice old.window new.window
+piece_keeps on_hold device stage budget progress old new h =
+    unless_to_left SameDevice keeps_device on_hold device stage budget progress old new h
 
 pub told_keeps : (said : HostEvent) (device : BlockDevice) (on_hold : Bool) (old new : HostedQueue)
     → QueueTold said device on_hold old new → KeepsDevice old.window new.window

@@ -7,13 +7,13 @@ ghost use Rattle.mmio_window.specs.Soundness.{IsSound};
 ghost use Rattle.block_device.specs.Extent.{sector_len};
 ghost use Rattle.block_device.specs.Flights.{IsLanding, given_up};
 ghost use Rattle.block_device.specs.Tags.{is_any};
-ghost use Rattle.hosted_disk.specs.Disk.{HoldsFlights, LooksAtQueue, ServesDisk, fresh_disk, must_wait, queue_of};
+ghost use Rattle.hosted_disk.specs.Disk.{HoldsFlights, LooksAtQueue, LooksAtQueueTo, ServesDisk, ServesDiskTo, fresh_disk, must_wait, queue_of};
 ghost use Rattle.hosted_disk.specs.Told.{DoesAsTold, has_effect};
 
 use block_device::{BlockDevice, Extent, Flights, HostEvent, REQUESTQ, Verdict};
-use chain::Chain;
+use chain::{Budget, Chain, Progress};
 use guest_memory::GuestMemory;
-use mmio_window::{Window, may_stop_queues};
+use mmio_window::{Stage, Window, may_stop_queues};
 use std::alloc::{AllocError, Allocator, Global};
 use std::marker::Model;
 
@@ -104,6 +104,33 @@ impl<A: Allocator> HostedDisk<A> {
         }
     }
 
+    /// The same within a budget: in a pause the queue stands open, and `Stage::Next` goes on.
+    pub fn serve_piece<M: Allocator>(
+        &mut self,
+        q: u16,
+        mem: &mut GuestMemory<M>,
+        window: &mut Window,
+        stage: Stage,
+        budget: Budget,
+        room: &mut Chain,
+    ) -> Progress
+        requires sound { IsSound mem.old window.old }
+        requires held { HoldsFlights mem.old window.old self.old }
+        ensures serves { ServesDiskTo stage budget result self.old q mem.old mem.new window.old window.new self.new }
+        ensures device { self.new.device ≡ self.old.device }
+        ensures kind { window.new.kind ≡ window.old.kind }
+        ensures offered { window.new.negotiation.offered ≡ window.old.negotiation.offered }
+        ensures range { SameRange mem.old mem.new }
+        ensures sound { IsSound mem.new window.new }
+        ensures held { HoldsFlights mem.new window.new self.new }
+    {
+        if q == REQUESTQ {
+            self.look_piece(mem, window, stage, budget, room)
+        } else {
+            Progress::Done
+        }
+    }
+
     /// Does what the host says, and looks at the queue where further chains may be taken. False where there is nothing to do:
     /// nothing has changed then.
     pub fn tell<M: Allocator>(
@@ -172,6 +199,32 @@ impl<A: Allocator> HostedDisk<A> {
         if !self.on_hold {
             self.device.look(mem, window, &mut self.flights, room);
         }
+    }
+
+    // A piece of that, within a budget.
+    fn look_piece<M: Allocator>(
+        &mut self,
+        mem: &mut GuestMemory<M>,
+        window: &mut Window,
+        stage: Stage,
+        budget: Budget,
+        room: &mut Chain,
+    ) -> Progress
+        requires sound { IsSound mem.old window.old }
+        requires held { HoldsFlights mem.old window.old self.old }
+        ensures looks { LooksAtQueueTo stage budget result self.old mem.old mem.new window.old window.new self.new }
+        ensures device { self.new.device ≡ self.old.device }
+        ensures kind { window.new.kind ≡ window.old.kind }
+        ensures offered { window.new.negotiation.offered ≡ window.old.negotiation.offered }
+        ensures range { SameRange mem.old mem.new }
+        ensures sound { IsSound mem.new window.new }
+        ensures held { HoldsFlights mem.new window.new self.new }
+    {
+        if self.on_hold {
+            return Progress::Done;
+        }
+        self.device
+            .look_piece(mem, window, stage, budget, &mut self.flights, room)
     }
 
     // Completes the operation of this tag. False where no operation has the tag.

@@ -100,16 +100,16 @@ module _ {State : Type 0} {device : Device State} {budget left : Budget} {start 
 
   -- the device leaves it on offer
   pub left_at : {E : Type 0} (Refuses : State → Memory → List Buffer → E → Type 0) (m' : Memory)
-      (last : Queue) (t' : State) (buffers : List Buffer) (token : Token) (why : E)
-      → ¬ IsSpent left → device.takes t ≡ true → queue_kind.offers m queue ≡ true
+      (last : Queue) (t' : State) (buffers : List Buffer) (token : Token) (why : E) (left' : Budget)
+      → ¬ IsSpent left → left' ≡ less_chain left buffers → device.takes t ≡ true → queue_kind.offers m queue ≡ true
       → queue_kind.Offers m queue buffers (entry_of token) → IsTaken queue token → Good m buffers
       → Refuses t m buffers why → m' ≡ m → t' ≡ t → last ≡ queue
       → IsLeftAt device Refuses budget (site_at start first s) (site_at m' last t') buffers
-      (record { token = token; why = why })
-  left_at {E} Refuses m' last t' buffers token why some takes offers offered named good refuses unwritten
-      kept same =
+      (record { token = token; why = why; left = left' })
+  left_at {E} Refuses m' last t' buffers token why left' some spends takes offers offered named good refuses
+      unwritten kept same =
       let here : IsLeftAt device Refuses budget (site_at start first s) (site_at m queue t) buffers
-      (record { token = token; why = why }) = record {
+      (record { token = token; why = why; left = left' }) = record {
         course = h.piece.course;
         within = h.piece.within;
         unspent = subst (λ l. ¬ IsSpent l) h.piece.left_is some;
@@ -118,5 +118,6 @@ module _ {State : Type 0} {device : Device State} {budget left : Budget} {start 
         taken = named;
         good = good;
         refuses = refuses;
+        left = spends ∙ ap (λ l. less_chain l buffers) h.piece.left_is;
       } in
       rw (unwritten, kept, same) here

@@ -59,6 +59,9 @@ same_negotiation None w a = refl
 same_negotiation (Some Queue0) w a = refl
 same_negotiation (Some Queue1) w a = refl
 
+pub with_ring_negotiation : (q : ℕ) (w : WindowState) (a : Queue) → (with_ring q w a).negotiation ≡ w.negotiation
+with_ring_negotiation q w a = same_negotiation (queue_of w.kind q) w a
+
 -- So a service that pauses finds its queue there.
 pub queue_stands_open : (q : ℕ) (w : WindowState) (queue last : Queue) → queue_at q w ≡ Some queue
     → queue_at q (with_ring q w last) ≡ Some last

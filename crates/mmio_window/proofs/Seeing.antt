@@ -52,6 +52,12 @@ module _ {S T : Type 0} (device : Device S) (other : Device T) (seen : S → T)
       let seen = chains_seen start now c.chains c.serves in
       record { chains = seen.chains; serves = seen.serves }
 
+  -- of the same buffers
+  pub course_chains : (start now : Site Queue S) → (c : Course queue_kind device start now)
+      → chains_of (course_seen start now c).chains ≡ chains_of c.chains
+  unfolding course_seen
+  course_chains start now c = (chains_seen start now c.chains c.serves).same
+
   module _ (budget : Budget) where
     pauses_seen : (start now : Site Queue S) → Pauses queue_kind device budget start now
         → Pauses queue_kind other budget (at start) (at now)

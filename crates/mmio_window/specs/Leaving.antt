@@ -6,7 +6,7 @@ use Rattle.chain.specs.declared.budget.Budget.{Budget}
 use Rattle.chain.specs.declared.budget.Progress.{Progress}
 use Rattle.chain.specs.declared.budget.Progress.TheVariants.{More, Done}
 use Rattle.chain.specs.declared.segment.Buffer.{Buffer}
-use Rattle.chain.specs.Budget.{AreWithin, IsSpent, chains_of, left_after}
+use Rattle.chain.specs.Budget.{AreWithin, IsSpent, chains_of, left_after, less_chain}
 use Rattle.chain.specs.Buffers.{Good}
 use Rattle.chain.specs.Pieces.{Pauses, RunsWithin}
 use Rattle.chain.specs.Service.{Device, Site, Course, IsReady}
@@ -50,7 +50,7 @@ TellsWhere device stage old new Open = ⊤
 TellsWhere device stage old new (Closed met wanted) = IfMetIn device stage old new met
 
 -- Chains were served within the budget and haven't spent it, and the one on offer has these buffers; the device leaves
--- it, for a reason that it has then.
+-- it, for a reason that it has then. What is left of the budget is told, with that chain taken off.
 pub record IsLeftAt {State E : Type 0} (device : Device State)
     (Refuses : State → Memory → List Buffer → E → Type 0) (budget : Budget) (start now : Site Queue State)
     (buffers : List Buffer)
@@ -63,6 +63,7 @@ pub record IsLeftAt {State E : Type 0} (device : Device State)
   pub taken : IsTaken now.ring refused.token
   pub good : Good now.memory buffers
   pub refuses : Refuses now.state now.memory buffers refused.why
+  pub left : refused.left ≡ less_chain (left_after budget (chains_of course.chains)) buffers
 
 -- the same of a piece, from its opening on
 pub record RefusesAt {State E : Type 0} (device : Device State)

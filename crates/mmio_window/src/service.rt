@@ -47,6 +47,8 @@ pub struct Refused<E> {
     pub token: Token,
     /// Why it is left.
     pub why: E,
+    /// What is left of the budget behind it.
+    pub left: Budget,
 }
 
 /// Serves a piece of a service: its first one opens the queue, and its end closes it. Where the device leaves a chain on
@@ -143,7 +145,7 @@ fn serve_chains<B, D: QueueHandler<B>, M: Allocator>(
                         queue.give(mem, token, used);
                         chain.count(used.len);
                     }
-                    Err(why) => return Err(Refused { token, why }),
+                    Err(why) => return Err(Refused { token, why, left }),
                 }
             }
             Ok(None) => return Ok(Stop::End(None)),

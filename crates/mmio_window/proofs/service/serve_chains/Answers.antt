@@ -54,8 +54,8 @@ returns-in-Err-serve-clause-refuses g c =
     left_at c.loop-left.invariant.0
     (g.D.QueueHandler.Refuses (g.D.QueueHandler.setup c.args.device.now c.args.backend.now) c.serve.new.backend)
     c.serve.new.mem c.take.new.self (g.D.QueueHandler.state c.serve.new.self c.serve.new.backend) c.take.new.chain
-    c.in-Ok-Some.token c.in-Err-serve.why
-    (some_left c.loop-left.left c.is_spent.result c.is_spent.ensures c.if-is_spent.false)
+    c.in-Ok-Some.token c.in-Err-serve.why c.spend.new.left
+    (some_left c.loop-left.left c.is_spent.result c.is_spent.ensures c.if-is_spent.false) c.spend.ensures
     (rw (← same) (sym c.takes.ensures ∙ c.loop-left-test.true))
     (rw c.in-Ok-Some.field-0-is at c.in-Ok-Some.ensures.on_offer)
     (rw c.in-Ok-Some.field-0-is at c.in-Ok-Some.ensures.offered)

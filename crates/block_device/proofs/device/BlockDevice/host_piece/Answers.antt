@@ -1,4 +1,4 @@
-use Rattle.std.proofs.Common.{sym, ap, ◌∙◌, not, arith}
+use Rattle.std.proofs.Common.{sym, ap, refl, ◌∙◌, not, arith}
 use Rattle.chain.specs.Bytes.{readable_of}
 use Rattle.chain.proofs.Directions.{length-readable_of}
 use Rattle.negotiation.specs.Features.{block_flush}
@@ -10,7 +10,7 @@ use Rattle.block_device.proofs.Telling.{places, told_inside, told_runs}
 use Rattle.block_device.proofs.Unasked.{any_disk}
 use Rattle.mmio_window.proofs.Soundness.{serving_keeps_sound}
 use Rattle.mmio_window.specs.Window.{queue_at, with_ring}
-use Rattle.block_device.proofs.Anywhere.{asks_at, hosts_to, none_asks}
+use Rattle.block_device.proofs.Anywhere.{asks_at, asks_within, hosts_to, none_asks}
 use Rattle.block_device.proofs.device.BlockDevice.host_piece.Goals as goal
 
 pub tell-operation-requires-clause-places : goal.tell-operation-requires-clause-places
@@ -29,34 +29,29 @@ of-requires g c =
 
 pub launch-requires : goal.launch-requires
 launch-requires g c = record {
-  taken = (asks_at c.args.self.now c.args.stage c.args.budget c.args.mem.now c.serve_queue.new.mem
+  taken = (asks_at c.args.self.now c.args.stage c.args.budget.now c.args.mem.now c.serve_queue.new.mem
       c.in-Some.queue.now c.serve_queue.new.queue c.serve_queue.new.chain c.serve_queue.new.backend
       c.in-Err.asked c.in-Err.ensures.refuses any_disk).stops.taken;
 }
 
 pub returns-in-Err-clause-served : goal.returns-in-Err-clause-served
-returns-in-Err-clause-served g c disk = record {
-  queue = c.in-Some.queue.now;
-  ready = c.in-Some.ensures.value;
-  last = c.serve_queue.new.queue;
-  request = c.in-Err.asked.why;
-  asks = rw c.of.ensures.token (asks_at c.args.self.now c.args.stage c.args.budget c.args.mem.now
-      c.serve_queue.new.mem c.in-Some.queue.now c.serve_queue.new.queue c.serve_queue.new.chain
-      c.serve_queue.new.backend c.in-Err.asked c.in-Err.ensures.refuses disk);
-  window = rw c.of.ensures.token (ap (with_ring 0 c.args.window.now) c.launch.ensures.launched);
-  status = c.of.ensures.status;
-  operation = c.of.ensures.operation ∙ c.tell-operation.ensures.operation
-      ∙ ap (λ flushes. operation_of (not flushes) c.in-Err.asked.why)
-      (c.contains-stable.ensures tt ∙ ap (λ bits. has bits block_flush) (c.negotiated-negotiated.ensures.value
-      ∙ ap negotiated_of c.negotiation.ensures));
-  runs_are = c.tell-operation.ensures.runs
-      ∙ told_runs c.args.self.now c.serve_queue.new.mem c.serve_queue.new.chain c.in-Err.asked.why
-      c.serve_queue.new.backend c.in-Err.ensures.refuses.left.refuses;
-}
+returns-in-Err-clause-served g c disk =
+    asks_within c.args.self.now c.args.stage c.args.budget.now c.in-Err.asked.left (queue_at 0 c.args.window.now)
+    c.args.mem.now c.serve_queue.new.mem c.args.window.now _ c.in-Some.queue.now c.serve_queue.new.queue
+    c.serve_queue.new.chain c.serve_queue.new.backend c.tell-operation.new.runs c.in-Err.asked c.of.result disk
+    c.in-Some.ensures.value c.in-Err.ensures.refuses c.of.ensures.token
+    (ap (with_ring 0 c.args.window.now) c.launch.ensures.launched) c.of.ensures.status
+    (c.of.ensures.operation ∙ c.tell-operation.ensures.operation
+    ∙ ap (λ flushes. operation_of (not flushes) c.in-Err.asked.why)
+    (c.contains-stable.ensures tt ∙ ap (λ bits. has bits block_flush) (c.negotiated-negotiated.ensures.value
+    ∙ ap negotiated_of c.negotiation.ensures)))
+    (c.tell-operation.ensures.runs
+    ∙ told_runs c.args.self.now c.serve_queue.new.mem c.serve_queue.new.chain c.in-Err.asked.why
+    c.serve_queue.new.backend c.in-Err.ensures.refuses.left.refuses) refl
 
 pub returns-in-Err-clause-flight : goal.returns-in-Err-clause-flight
 returns-in-Err-clause-flight g c =
-    let asks = asks_at c.args.self.now c.args.stage c.args.budget c.args.mem.now c.serve_queue.new.mem
+    let asks = asks_at c.args.self.now c.args.stage c.args.budget.now c.args.mem.now c.serve_queue.new.mem
     c.in-Some.queue.now c.serve_queue.new.queue c.serve_queue.new.chain c.serve_queue.new.backend
     c.in-Err.asked
     c.in-Err.ensures.refuses any_disk in
@@ -71,7 +66,7 @@ returns-in-Err-clause-flight g c =
 
 pub returns-in-Err-clause-inside : goal.returns-in-Err-clause-inside
 returns-in-Err-clause-inside g c =
-    let asks = asks_at c.args.self.now c.args.stage c.args.budget c.args.mem.now c.serve_queue.new.mem
+    let asks = asks_at c.args.self.now c.args.stage c.args.budget.now c.args.mem.now c.serve_queue.new.mem
     c.in-Some.queue.now c.serve_queue.new.queue c.serve_queue.new.chain c.serve_queue.new.backend
     c.in-Err.asked
     c.in-Err.ensures.refuses any_disk in
@@ -93,7 +88,7 @@ returns-in-Err-clause-sound g c =
 
 pub returns-in-Ok-clause-served : goal.returns-in-Ok-clause-served
 returns-in-Ok-clause-served g c disk =
-    rw c.by.ensures (hosts_to c.args.self.now c.args.stage c.args.budget (queue_at 0 c.args.window.now)
+    rw c.by.ensures (hosts_to c.args.self.now c.args.stage c.args.budget.now c.args.budget.now (queue_at 0 c.args.window.now)
     c.in-Some.queue.now c.serve_queue.new.queue c.in-Ok.left c.show.result
     c.args.mem.now c.serve_queue.new.mem c.args.window.now c.show.new.window _ _ disk
     c.in-Some.ensures.value c.show.ensures.progress c.show.ensures.after c.in-Ok.ensures.leaves)

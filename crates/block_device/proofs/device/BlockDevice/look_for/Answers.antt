@@ -5,8 +5,8 @@ use Rattle.block_device.proofs.Freeing.{entry_free, is_free, now_taken, set_free
 use Rattle.block_device.proofs.Holding.{all_set}
 use Rattle.block_device.proofs.device.BlockDevice.look_for.Goals as goal
 
-pub index_mut-requires : goal.index_mut-requires
-index_mut-requires g c =
+pub index_mut-free-requires : goal.index_mut-free-requires
+index_mut-free-requires g c =
     let lowest : free_tag c.flights.inside.items.items ≡ Some c.args.tag =
     ap free_tag c.flights.view_is ∙ c.requires.lowest in
     let there = (is_free c.flights.inside.items.items c.args.tag lowest).there in
@@ -14,19 +14,19 @@ index_mut-requires g c =
 
 pub look_into-requires-clause-free : goal.look_into-requires-clause-free
 look_into-requires-clause-free g c =
-    entry_free c.flights.inside.items.items c.args.tag c.index_mut.result.now c.index_mut.ensures.value
+    entry_free c.flights.inside.items.items c.args.tag c.index_mut-free.result.now c.index_mut-free.ensures.value
     (ap free_tag c.flights.view_is ∙ c.requires.lowest)
 
 pub invariant_of-flights : goal.invariant_of-flights
 invariant_of-flights g c =
     still_free c.flights.inside.taken c.args.tag c.flights.inside.items.items c.look_into.new.tag c.flights.invariant.0
-    c.flights.invariant.1 (ap free_tag c.flights.view_is ∙ c.requires.lowest) (ap is_some c.if-not-look_into.ensures.ends.0)
+    c.flights.invariant.1 (ap free_tag c.flights.view_is ∙ c.requires.lowest) (ap is_some c.in-Some.ensures.stops.0)
 
-pub returns-then-not-look_into-clause-ends : goal.returns-then-not-look_into-clause-ends
-returns-then-not-look_into-clause-ends g c = record {
-  ends = c.if-not-look_into.ensures.ends.1;
+pub returns-in-Some-clause-stops : goal.returns-in-Some-clause-stops
+returns-in-Some-clause-stops g c = record {
+  stops = c.in-Some.ensures.stops.1;
   tags = set_free c.flights.inside.items.items c.args.tag c.look_into.new.tag
-      (ap free_tag c.flights.view_is ∙ c.requires.lowest) c.if-not-look_into.ensures.ends.0
+      (ap free_tag c.flights.view_is ∙ c.requires.lowest) c.in-Some.ensures.stops.0
       ∙ c.flights.view_is;
 }
 
@@ -42,7 +42,7 @@ invariant_of-flights-2 g c =
     let items = c.flights.inside.items.items in
     let there = (is_free items c.args.tag (ap free_tag c.flights.view_is ∙ c.requires.lowest)).there in
     now_taken _ c.args.tag items c.look_into.new.tag c.flights.invariant.0
-    (ap is_some c.if-not-look_into.ensures.asks.2)
+    (ap is_some c.in_default.ensures.asks.2)
     (λ here. c.with_tag-flights-inside.ensures items here there c.flights.invariant.1)
 
 pub returns-clause-each : goal.returns-clause-each

@@ -4,12 +4,12 @@ use Rattle.mmio_window.specs.Soundness.{IsSound}
 use Rattle.block_device.specs.Tags.{TagIsHeld}
 use Rattle.block_device.proofs.Bits.{first_free}
 use Rattle.block_device.proofs.Looking.{IsLooking}
-use Rattle.block_device.proofs.device.BlockDevice.look.Given as goal
+use Rattle.block_device.proofs.device.BlockDevice.look_piece.Given as goal
 
 abbrev pub invariant-loop-tag : goal.invariant-loop-tag
 invariant-loop-tag g l = record {
-  looking : IsLooking l.self (record { memory = l.fn.mem; window = l.fn.window; tags = l.fn.flights }) l.stage
-      (record { memory = l.mem; window = l.window; tags = l.flights });
+  looking : IsLooking l.self (record { memory = l.fn.mem; window = l.fn.window; tags = l.fn.flights }) l.fn.stage l.fn.budget
+      l.stage l.left (record { memory = l.mem; window = l.window; tags = l.flights });
   each : All (TagIsHeld l.self.extent.count l.mem) l.flights;
   range : SameRange l.fn.mem l.mem;
   sound : IsSound l.mem l.window;
