@@ -1,6 +1,6 @@
 -- Devices one after another: what is said of the first and of the others is said of all.
-use Rattle.std.proofs.Common.{append-nil, append_assoc, ◌≡◌, ◌∙◌, ◌↔◌, ℕ, zero, suc, ◌-◌, ◌≤◌, ◌||◌, Option, Some, Bool, true, false, List, [], ◌∷◌, length, length-set, slice_index_or, take, drop, refl, sym, ap, subst, arith}
-use Rattle.std.specs.Prelude.{◌<◌, ◌++◌, None, IfSome, IsSome, IsTrue, nat_le, slice_set}
+use Rattle.std.proofs.Common.{append-nil, append_assoc, ◌≡◌, ◌∙◌, ◌↔◌, ℕ, zero, suc, ◌-◌, ◌≤◌, ◌||◌, Option, Some, Bool, true, false, List, [], ◌∷◌, Result, Ok, Err, length, length-set, slice_index_or, take, drop, refl, sym, ap, subst, arith}
+use Rattle.std.specs.Prelude.{◌<◌, ◌&&◌, ◌++◌, None, IfSome, IsSome, IsTrue, OnErr, nat_le, slice_set}
 use Rattle.std.specs.List.{slice_get}
 use Rattle.std.specs.Option.{MatchOption, option_and_then, option_map}
 use Rattle.guest_memory.specs.Memory.{Memory}
@@ -13,7 +13,8 @@ use Rattle.snapshot.specs.declared.saved.SavedDevice.{SavedDevice}
 use Rattle.device_list.specs.declared.spec.AddRefusal.TheVariants.{BadDisk, BadExtent, BadMtu, TooMany}
 use Rattle.device_list.specs.declared.spec.DeviceSpec.{DeviceSpec}
 use Rattle.device_list.specs.Device.{DeviceState, IsSoundDevice}
-use Rattle.device_list.specs.List.{AreSoundDevices, are_at_work, has_bad_extent, refusal_of}
+use Rattle.racing_window.specs.Memory.{window_fits}
+use Rattle.device_list.specs.List.{AreSoundDevices, are_at_work, devices_fit, has_bad_extent, refusal_of}
 use Rattle.device_list.specs.Model.{features_of, has_bad_disk, has_bad_mtu, is_at_work, kind_of}
 use Rattle.device_list.specs.Saved.{RestoresEach, SuitDevices, SuitsDevice, device_window_restored, first_restored, saved_device, saved_devices, with_window}
 use Rattle.device_list.proofs.Sound.{all_sound, held_idle}
@@ -290,9 +291,37 @@ none_suit [] [] none all = tt
 none_suit [] (y ∷ ds) none all = absurd (omega arith)
 none_suit (x ∷ ss) ds none all = absurd (omega arith)
 
+-- ---- whether they can stand over another memory
+
+first_fits : (m : Memory) (d x : DeviceState) (first : Bool) → first ≡ window_fits m d.window → d ≡ x
+    → first ≡ window_fits m x.window
+first_fits m d x first is same = is ∙ ap (λ (e : DeviceState). window_fits m e.window) same
+
+-- the first can: all can where the others can
+pub fits_more : (m : Memory) (ds : List DeviceState) (d : DeviceState) (first others : Bool) → 1 ≤ length ds
+    → d ≡ slice_index_or ds 0 d → first ≡ window_fits m d.window → first ≡ true
+    → others ≡ devices_fit m (behind_first ds) → others ≡ devices_fit m ds
+fits_more m [] d first others some is one fits other = absurd (omega arith)
+fits_more m (x ∷ ds) d first others some is one fits other =
+    other ∙ ap (λ (rest : List DeviceState). devices_fit m rest) (behind_is x ds)
+    ∙ ap (λ (b : Bool). b && devices_fit m ds) (sym fits ∙ first_fits m d x first one is)
+
+-- it can't: not all can
+pub fits_not : (m : Memory) (ds : List DeviceState) (d : DeviceState) (first : Bool) → 1 ≤ length ds
+    → d ≡ slice_index_or ds 0 d → first ≡ window_fits m d.window → first ≡ false → first ≡ devices_fit m ds
+fits_not m [] d first some is one fails = absurd (omega arith)
+fits_not m (x ∷ ds) d first some is one fails =
+    fails ∙ ap (λ (b : Bool). b && devices_fit m ds) (sym fails ∙ first_fits m d x first one is)
+
 -- a device that is put back in its place leaves the list as it was
 pub set_back : (ds : List DeviceState) (i : ℕ) (d e : DeviceState) → i < length ds → d ≡ slice_index_or ds i d → e ≡ d
     → slice_set ds i e ≡ ds
 set_back [] i d e lt is same = absurd (omega arith)
 set_back (y ∷ ds) zero d e lt is same = ap (λ (x : DeviceState). x ∷ ds) (same ∙ is)
 set_back (y ∷ ds) (suc i) d e lt is same = ap (λ (l : List DeviceState). y ∷ l) (set_back ds i d e (omega arith) is same)
+
+-- where a device refuses, the list stays
+pub refused_stays : {T E : Type 0} (result : Result T E) (ds old : List DeviceState) (i : ℕ) (d e : DeviceState) → ds ≡ old
+    → i < length ds → d ≡ slice_index_or ds i d → OnErr result (e ≡ d) → OnErr result (slice_set ds i e ≡ old)
+refused_stays (Ok told) ds old i d e was within found kept = tt
+refused_stays (Err why) ds old i d e was within found kept = set_back ds i d e within found kept ∙ was

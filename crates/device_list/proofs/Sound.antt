@@ -1,7 +1,7 @@
 -- Devices stay sound where the bytes of the memory change, and where one of them does its part.
 use Rattle.std.proofs.Common.{◌≡◌, ℕ, List, refl, sym, ◌∙◌, subst}
-use Rattle.std.specs.Prelude.{IsSome, ◌<◌, [], ◌∷◌, ◌++◌, Bool, true, false, if◌then◌else◌, get_or, length, slice_set}
-use Rattle.std.proofs.lemmas.List.Elements.{All-get_or, All-push, All-set, All-weaker}
+use Rattle.std.specs.Prelude.{◌&&◌, ◌||◌, IsSome, ◌<◌, [], ◌∷◌, ◌++◌, Bool, true, false, if◌then◌else◌, get_or, length, slice_set}
+use Rattle.std.proofs.lemmas.List.Elements.{All-cons, All-get_or, All-head, All-nil, All-push, All-set, All-tail, All-weaker}
 use Rattle.guest_memory.specs.Memory.{Memory, SameRange}
 use Rattle.mmio_window.proofs.Soundness.{IsSound-same_range}
 use Rattle.mmio_window.proofs.Devices.{KeepsDevice, KeepsDevice-written}
@@ -10,7 +10,9 @@ use Rattle.mmio_window.specs.Window.{WindowState}
 use Rattle.mmio_window.specs.Writing.{written}
 use Rattle.device_list.specs.declared.spec.DeviceSpec.{DeviceSpec}
 use Rattle.device_list.specs.Device.{DeviceState, IsSoundDevice, fresh_device}
-use Rattle.device_list.specs.List.{AreSoundDevices}
+use Rattle.racing_window.specs.Memory.{window_fits}
+use Rattle.racing_window.proofs.Fitting.{sound_again}
+use Rattle.device_list.specs.List.{AreSoundDevices, are_at_work, devices_fit}
 use Rattle.hosted_disk.specs.Disk.{fresh_disk}
 use Rattle.block_device.proofs.Freeing.{none_in_flight}
 use Rattle.hosted_disk.proofs.Flights.{idle_held, keeps_all, still_held, written_held}
@@ -131,6 +133,29 @@ pub one_changed : (m : Memory) (devices old : List DeviceState) (i : ℕ) (d e :
 one_changed m devices old i d e is within found stays sound =
     let was = one_sound m devices i d (rw is sound) within found in
     all_sound m m devices old i e is (record { base = refl; size = refl; gaps = refl }) sound (stays was)
+
+-- over another memory that each of them fits, where nothing is in flight
+pub fitting_sound : (new m : Memory) (devices : List DeviceState) → devices_fit new devices ≡ true
+    → are_at_work devices ≡ false → AreSoundDevices m devices → AreSoundDevices new devices
+fitting_sound new m [] fits idle sound = All-nil (IsSoundDevice new)
+fitting_sound new m (d ∷ ds) fits idle sound =
+    let each = both (window_fits new d.window) (devices_fit new ds) fits in
+    let none = neither (is_at_work d.model) (are_at_work ds) idle in
+    let first = All-head (IsSoundDevice m) d ds sound in
+    All-cons (IsSoundDevice new) d ds (record {
+      kind = first.kind;
+      offers = first.offers;
+      window = sound_again m new d.window each.0 first.window;
+      held = held_idle new d.window d.model none.0;
+    }) (fitting_sound new m ds each.1 none.1 (All-tail (IsSoundDevice m) d ds sound))
+  where
+    both : (one other : Bool) → (one && other) ≡ true → (one ≡ true) × (other ≡ true)
+    both true other is = (refl, is)
+    both false other is = absurd (cc is)
+
+    neither : (one other : Bool) → (one || other) ≡ false → (one ≡ false) × (other ≡ false)
+    neither true other is = absurd (cc is)
+    neither false other is = (refl, is)
 
 -- a device as after a reset is sound, wherever its memory is
 pub fresh_sound : (m : Memory) (spec : DeviceSpec) → IsSoundDevice m (fresh_device spec)

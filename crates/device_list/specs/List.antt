@@ -1,6 +1,6 @@
 -- The list of devices: one of them changes, and the others stay.
 use Rattle.std.specs.Prelude.{◌≡◌, ◌+◌, ◌==◌, ◌||◌, ◌&&◌, ℕ, All, Bool, true, false, nat_le, nat_lt, if◌then◌else◌, Option, Some, None, List, length, slice_set}
-use Rattle.std.specs.List.{list_any, slice_get}
+use Rattle.std.specs.List.{list_all, list_any, slice_get}
 use Rattle.std.specs.Option.{option_and_then, option_map_or}
 use Rattle.guest_memory.specs.Memory.{Memory}
 use Rattle.chain.specs.declared.budget.Budget.{Budget}
@@ -8,6 +8,7 @@ use Rattle.chain.specs.declared.budget.Progress.{Progress}
 use Rattle.chain.specs.declared.budget.Progress.TheVariants.{Done}
 use Rattle.mmio_window.specs.declared.stage.Stage.{Stage}
 use Rattle.mmio_window.specs.Writing.{action_of}
+use Rattle.racing_window.specs.Memory.{window_fits}
 use Rattle.device_list.specs.declared.spec.AddRefusal.{AddRefusal}
 use Rattle.device_list.specs.declared.spec.AddRefusal.TheVariants.{TooMany, BadMtu, BadDisk, BadExtent, NoMemory}
 use Rattle.device_list.specs.declared.refusal.WriteRefusal.{WriteRefusal}
@@ -106,6 +107,10 @@ waits_at offset d = must_wait offset d.model
 -- the queue that a write of a device's window notifies, if it does
 abbrev pub notified_at : ℕ → ℕ → ℕ → DeviceState → Option ℕ
 notified_at offset width value d = notified_by (action_of offset width value d.window)
+
+-- whether each ready queue of each device could be made ready over this memory (4.2.2)
+abbrev pub devices_fit : Memory → List DeviceState → Bool
+devices_fit m devices = list_all (λ d. window_fits m d.window) devices
 
 -- Why a write isn't done to it: there is no such device, or the write waits.
 abbrev pub IsWriteRefusal : ℕ → Option DeviceState → WriteRefusal → Type 0

@@ -3,6 +3,8 @@
 ghost use Rattle.std.specs.Prelude.{◌≡◌, false, true, IfErr, IfOk, OnErr, OnOk};
 ghost use Rattle.guest_memory.specs.Memory.{SameRange};
 ghost use Rattle.mmio_window.specs.Interrupts.{interrupt_bits};
+ghost use Rattle.racing_window.specs.Memory.{window_fits};
+ghost use Rattle.shared_memory.specs.Sightings.{memory};
 ghost use Rattle.device_list.specs.Device.{DeviceServesIn, DeviceServesTo, DeviceState, IsSoundDevice, device_written, fresh_device, register_of};
 ghost use Rattle.device_list.specs.declared.refusal.WriteRefusal.{WriteRefusal};
 ghost use Rattle.device_list.specs.List.{notified_at};
@@ -17,10 +19,12 @@ use crate::model::DeviceModel;
 use crate::refusal::WriteRefusal;
 use crate::spec::DeviceSpec;
 use chain::{Budget, Chain, Progress};
-use guest_memory::GuestMemory;
+use guest_memory::{GuestMemory, Ranged};
 use mmio_window::{Action, Stage, Window};
 use network_device::NoMemory;
+use racing_window::fits;
 use served_memory::{Limits, Served};
+use shared_memory::Shared;
 use std::alloc::{Allocator, Global};
 use std::marker::Model;
 
@@ -86,21 +90,21 @@ impl<A: Allocator> VirtioDevice<A> {
 
     /// Writes its window's registers, and takes what is written to its configuration. Answers the queue that is notified, which
     /// is to be served next. A write that waits for what is in flight of a disk is refused: nothing has changed then.
-    pub(crate) fn write<M: Allocator>(
+    pub(crate) fn write<M: Ranged>(
         &mut self,
         offset: u16,
         width: u8,
         value: u32,
-        mem: &GuestMemory<M>,
+        mem: &M,
     ) -> Result<Option<u16>, WriteRefusal>
-        requires sound { IsSoundDevice mem.now self.old }
+        requires sound { IsSoundDevice (M.ranged mem.now) self.old }
         ensures free { OnOk result (must_wait offset self.old.model ≡ false) }
         ensures notified { IfOk result (λ q. q ≡ notified_at offset width value self.old) }
-        ensures written { OnOk result (self.new ≡ device_written offset width value mem.now self.old) }
+        ensures written { OnOk result (self.new ≡ device_written offset width value (M.ranged mem.now) self.old) }
         ensures waits { OnErr result (must_wait offset self.old.model ≡ true) }
         ensures refused { IfErr result (λ why. why ≡ WriteRefusal.Busy) }
         ensures kept { OnErr result (self.new ≡ self.old) }
-        ensures sound { IsSoundDevice mem.now self.new }
+        ensures sound { IsSoundDevice (M.ranged mem.now) self.new }
     {
         if self.model.must_wait(offset) {
             return Err(WriteRefusal::Busy);
@@ -152,5 +156,12 @@ impl<A: Allocator> VirtioDevice<A> {
         let window = &mut self.window;
         self.model
             .serve_in(q, mem, window, stage, limits, chain, room)
+    }
+
+    /// Whether each of its ready queues could be made ready over this memory.
+    pub(crate) fn fits<M: Shared>(&self, mem: &M) -> bool
+        ensures { result ≡ window_fits (memory (M.sightings mem.now)) self.now.window }
+    {
+        fits(&self.window, mem)
     }
 }
