@@ -1,12 +1,13 @@
 -- What a call does to a board.
-use Rattle.std.specs.Prelude.{◌≡◌, ◌≢◌, ◌⊎◌, ℕ, ◌==◌, ◌||◌, ◌<◌, ◌≤◌, ◌+◌, ◌*◌, ◌++◌, ◌↔◌, Bool, false, List, [], Option, None, Some, IsTrue, IsErrOf, IsSome, IsSomeAnd, length, min, take, drop, Result}
+use Rattle.std.specs.Prelude.{◌≡◌, ◌≢◌, ◌⊎◌, ℕ, ◌==◌, ◌||◌, ◌<◌, ◌≤◌, ◌+◌, ◌++◌, ◌↔◌, Bool, false, List, [], Option, None, Some, IsTrue, IsErrOf, IsSome, IsSomeAnd, length, min, take, drop, Result}
 use Rattle.std.specs.List.{slice_get}
 use Rattle.std.specs.Global.{Global}
 use Rattle.guest_memory.specs.Memory.{Inside, Memory}
-use Rattle.guest_memory.specs.Pages.{bits_of, page_size}
+use Rattle.guest_memory.specs.Pages.{bits_of}
 use Rattle.board.specs.declared.event.EventKind.{EventKind}
 use Rattle.block_device.specs.declared.operation.HostEvent.{HostEvent}
 use Rattle.block_device.specs.declared.operation.HostEvent.TheVariants as host
+use Rattle.c_values.specs.Loans.{HasBits}
 use Rattle.c_values.specs.Operation.{verdict_of}
 use Rattle.board.specs.declared.reply.Reply.{Reply}
 use Rattle.board.specs.declared.reply.Reply.TheVariants as reply
@@ -123,10 +124,6 @@ pub record HasNoRegion (slot addr code : ℕ) (old new : SessionState) : Type 0 
   pub there : IsSomeAnd (slice_get old.slots slot) (λ found. ¬ Inside found.memory addr 1)
   pub bad_range : code ≡ 4
   pub kept : new ≡ old
-
--- these bytes have a bit for each page of a memory, from its first byte to its last, those in gaps included
-abbrev pub HasBits : Memory → List ℕ → Type 0
-HasBits memory bytes = length memory.bytes ≤ page_size * (8 * length bytes)
 
 -- The bits of the pages of a slot's memory are kept in these bytes from now on: in none, or there is one for each page.
 pub record KeepsPages (slot : ℕ) (bytes : List ℕ) (old new : SessionState) : Type 0 where

@@ -1,14 +1,12 @@
 //! Which pages of a guest's memory its devices write to, for a host that moves the guest.
 
-ghost use Rattle.std.specs.Prelude.{◌≡◌, ◌≢◌, ◌*◌, ◌↔◌, ◌≤◌, IsTrue};
+ghost use Rattle.std.specs.Prelude.{◌≡◌, ◌≢◌};
 ghost use Rattle.board_ffi.specs.Calls.{Calls, IsMissing, KeepsPages, LacksBits};
 
 use crate::codes::{BAD_LOAN, BAD_SLOT, DONE};
 use crate::handle::{Handle, session_of};
+use c_values::have_bits;
 use guest_bytes::Loan;
-
-/// How many bytes of memory a byte of bits stands for: eight pages of 4096.
-const BYTES_OF_EIGHT_PAGES: u64 = 0x8000;
 
 /// Has the bits of a guest's pages kept in bytes that the host lends, from now on until the next such call. Of no bytes
 /// none are kept; else there is one for each page. The loan is given up, also where it is refused.
@@ -29,11 +27,4 @@ pub extern "C" fn kalyubos_keep_pages(board: &mut Handle, slot: u8, bits: Loan) 
     }
     session.keep_pages(slot, bits);
     DONE
-}
-
-// Whether so many bytes have a bit for each page of a memory of this length.
-fn have_bits(bytes: usize, len: u64) -> bool
-    ensures { IsTrue result ↔ (len ≤ 4096 * (8 * bytes)) }
-{
-    len <= (bytes as u64).saturating_mul(BYTES_OF_EIGHT_PAGES)
 }

@@ -23,7 +23,7 @@ pub use codes::{
 };
 pub use fault::Fault;
 pub use limits::budget;
-pub use loans::taken;
+pub use loans::{have_bits, taken};
 pub use operation::{Operation, Run, tell_runs, verdict};
 pub use parts::Parts;
 pub use pending::Pending;

@@ -1,12 +1,22 @@
 //! The memory that a host lends, loan by loan.
 
-ghost use Rattle.std.specs.Prelude.{◌≡◌, [], All, map, IfOk, OnOk};
+ghost use Rattle.std.specs.Prelude.{◌≡◌, ◌*◌, ◌≤◌, ◌↔◌, [], All, map, IfOk, IsTrue, OnOk};
 ghost use Rattle.std.specs.Vec.{vec_items};
 ghost use Rattle.c_values.specs.Loans.{TakesFirst};
 
 use guest_bytes::Lends;
 use std::alloc::{AllocError, Global};
 use std_alloc::vec::Lodged;
+
+/// How many bytes of memory a byte of bits stands for: eight pages of 4096.
+const BYTES_OF_EIGHT_PAGES: u64 = 0x8000;
+
+/// Whether so many bytes have a bit for each page of a memory of so many addresses.
+pub fn have_bits(bytes: usize, len: u64) -> bool
+    ensures { IsTrue result ↔ (len ≤ 4096 * (8 * bytes)) }
+{
+    len <= (bytes as u64).saturating_mul(BYTES_OF_EIGHT_PAGES)
+}
 
 /// What all loans lend, in their order, in whose places are then empty ones. Where there is no memory for the list, only the first
 /// may be taken.
