@@ -1,11 +1,12 @@
 -- The bits of pages that stores mark.
-use Rattle.std.proofs.Common.{◌≡◌, ◌∙◌, ◌==◌, ℕ, ◌-◌, ◌≤◌, ◌<◌, Bool, true, List, [], ◌∷◌, length, get_or, refl, sym, ap, subst, arith}
+use Rattle.std.proofs.Common.{◌≡◌, ◌∙◌, ◌==◌, ℕ, ◌-◌, ◌≤◌, ◌<◌, Bool, true, List, [], ◌∷◌, length, map, get_or, refl, sym, ap, subst, arith}
 use Rattle.std.proofs.lemmas.Bool.Decides.{nat_tests}
+use Rattle.std.proofs.lemmas.List.{length-map}
 use Rattle.guest_memory.specs.declared.spec.RegionSpec.{RegionSpec}
-use Rattle.guest_memory.specs.Faults.{zeroed_regions}
+use Rattle.guest_memory.specs.Faults.{zeroed_region}
 use Rattle.guest_memory.specs.Memory.{Inside}
 use Rattle.guest_memory.specs.Pages.{bits_of, marked}
-use Rattle.guest_memory.specs.Regions.{AreApart, in_front, memory_of}
+use Rattle.guest_memory.proofs.InRegions.{first_base, some_region}
 use Rattle.guest_memory.proofs.Marking.{marked-nil}
 use Rattle.racing_memory.specs.Past.{Access, MakeMemory, Seen, Stood, newest}
 use Rattle.racing_memory.proofs.Seeing.{newest_range}
@@ -23,20 +24,13 @@ none_kept (byte ∷ bytes) from n size is empty = absurd (grind (arith, nat_test
 
 -- ---- from the first region's base on
 
-pub some_region : (rs : List RegionSpec) → MakeMemory rs → 0 < length rs
-unfolding AreApart
-some_region [] makes = absurd makes
-some_region (r ∷ rs) makes = omega arith
-
-base_is : (r : RegionSpec) (rs : List RegionSpec) → (zeroed_regions (r ∷ rs)).base ≡ r.base
-unfolding memory_of in_front
-base_is r [] = refl
-base_is r (s ∷ rs) = refl
+pub some_made : (rs : List RegionSpec) → MakeMemory rs → 0 < length rs
+some_made rs makes = omega (arith, some_region (map zeroed_region rs) makes, length-map rs zeroed_region)
 
 base_at : (rs : List RegionSpec) (stood : Stood) (past : List Access) (d : RegionSpec) → MakeMemory rs
     → (newest rs stood past).base ≡ (get_or rs 0 d).base
-base_at [] stood past d makes = absurd (omega (arith, some_region [] makes))
-base_at (r ∷ rs) stood past d makes = (newest_range (r ∷ rs) stood past).base ∙ base_is r rs
+base_at [] stood past d makes = absurd (omega (arith, some_made [] makes))
+base_at (r ∷ rs) stood past d makes = (newest_range (r ∷ rs) stood past).base ∙ first_base (zeroed_region r) (map zeroed_region rs)
 
 -- a range of the memory lies there
 pub base_below : (rs : List RegionSpec) (stood : Stood) (past : List Access) (a n : ℕ) (d : RegionSpec) (s : Seen)

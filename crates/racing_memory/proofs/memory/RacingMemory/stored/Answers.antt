@@ -1,12 +1,12 @@
 use Rattle.std.proofs.Common.{◌∙◌, ◌-◌, ℕ, ap, arith, length, sym}
 use Rattle.guest_memory.specs.Pages.{bits_of, marked}
 use Rattle.racing_memory.specs.Past.{Noted, newest}
-use Rattle.racing_memory.proofs.Marks.{base_below, marks_noted, some_region}
+use Rattle.racing_memory.proofs.Marks.{base_below, marks_noted, some_made}
 use Rattle.racing_memory.proofs.Places.{newest_ends}
 use Rattle.racing_memory.proofs.memory.RacingMemory.stored.Goals as goal
 
 pub bounds-self-inside-0 : goal.bounds-self-inside-0
-bounds-self-inside-0 c = some_region c.self.inside.regions.now c.self.invariant.0
+bounds-self-inside-0 c = some_made c.self.inside.regions.now c.self.invariant.0
 
 pub overflow_sub-addr : goal.overflow_sub-addr
 overflow_sub-addr c =
