@@ -1,4 +1,5 @@
 pub mod Lending
 pub mod Calling
+pub mod Serving
 pub mod Owing
 pub mod Moving

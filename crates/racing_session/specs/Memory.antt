@@ -1,5 +1,5 @@
 -- Other memory for a guest while its devices go on: what becomes of its session, and why it is refused.
-use Rattle.std.specs.Prelude.{◌≡◌, ◌||◌, Bool, true, false, List}
+use Rattle.std.specs.Prelude.{◌≡◌, ◌||◌, ◌&&◌, Bool, true, false, List}
 use Rattle.guest_memory.specs.Faults.{AreGood, IsRefusedAt, zeroed_regions}
 use Rattle.guest_memory.specs.declared.spec.RegionSpec.{RegionSpec}
 use Rattle.racing_guest.specs.declared.reply.GuestQueue.TheVariants as queue
@@ -7,22 +7,23 @@ use Rattle.racing_guest.specs.Memory.{guest_fits}
 use Rattle.racing_guest.specs.Place.{has_flights}
 use Rattle.racing_session.specs.declared.fault.MemoryRefusal.{MemoryRefusal}
 use Rattle.racing_session.specs.declared.fault.MemoryRefusal.TheVariants.{Busy, BadLoan, Memory, QueueOutside}
-use Rattle.racing_session.specs.Due.{is_any_due}
+use Rattle.device_list.specs.List.{are_at_work, devices_fit}
 use Rattle.racing_session.specs.Judging.{AreWordsOf}
-use Rattle.racing_session.specs.Session.{RacingSession}
+use Rattle.racing_session.specs.Session.{RacingSession, is_due_in}
 
 -- The session over other regions: all else of it stays. What stands in them is nobody's to say, as of the memory before: each
 -- call begins `unseen`.
 abbrev pub with_regions : List RegionSpec → RacingSession → RacingSession
 with_regions regions session = record session { regions = regions }
 
--- whether a queue is due, or an operation of the disk is in flight
+-- whether a queue is due, or an operation of a disk is in flight
 abbrev pub is_busy : RacingSession → Bool
-is_busy session = is_any_due session.due || has_flights queue.Block session.guest
+is_busy session = is_due_in session || (has_flights queue.Block session.guest || are_at_work session.further.devices)
 
 -- whether each ready queue could be made ready over these regions, whatever stands there
 abbrev pub queues_fit : List RegionSpec → RacingSession → Bool
-queues_fit regions session = guest_fits (zeroed_regions regions) session.guest
+queues_fit regions session =
+    guest_fits (zeroed_regions regions) session.guest && devices_fit (zeroed_regions regions) session.further.devices
 
 -- the session may have these regions over these words
 pub record MayHave (session : RacingSession) (regions : List RegionSpec) (words : List (List (Unit {0}))) : Type 0 where

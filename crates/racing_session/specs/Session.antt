@@ -1,5 +1,5 @@
 -- A guest that runs on, as its host sees it, and what each call does, whatever the guest writes meanwhile.
-use Rattle.std.specs.Prelude.{◌≡◌, ℕ, Bool, true, false, List, [], Some, Result, length}
+use Rattle.std.specs.Prelude.{◌≡◌, ◌||◌, ℕ, Bool, true, false, List, [], Some, Result, length}
 use Rattle.guest_memory.specs.declared.spec.RegionSpec.{RegionSpec}
 use Rattle.guest_memory.specs.Faults.{zeroed_regions}
 use Rattle.guest_memory.specs.Memory.{Memory, SameRange}
@@ -16,25 +16,27 @@ use Rattle.racing_guest.specs.declared.reply.GuestQueue.TheVariants as queue
 use Rattle.racing_guest.specs.declared.reply.GuestWindow.{GuestWindow}
 use Rattle.racing_guest.specs.declared.reply.Reply.{Reply}
 use Rattle.racing_guest.specs.declared.reply.Reply.TheVariants.{Done}
-use Rattle.racing_guest.specs.Guest.{IsServedAgain, IsSoundGuest, IsTold, RacingGuest, TakesInput, WritesGuest, fresh_guest}
+use Rattle.racing_guest.specs.Guest.{IsServedAgain, IsSoundGuest, IsTold, RacingGuest, TakesInput, WritesGuest, fresh_guest, service_limits}
 use Rattle.racing_session.specs.declared.due.Due.{Due}
 use Rattle.racing_session.specs.declared.progress.Progress.{Progress}
 use Rattle.racing_session.specs.declared.progress.Refusal.{Refusal}
 use Rattle.racing_session.specs.declared.spec.RacingSpec.{RacingSpec}
 use Rattle.racing_session.specs.declared.told.Waits.{Waits}
 use Rattle.racing_session.specs.Answering.{answer_by, has_asked, has_asked_by, progress_by}
+use Rattle.racing_session.specs.Further.{Further, ServesDue, is_further_due, no_devices}
 use Rattle.racing_session.specs.Due.{due_after, due_by, is_any_due, none_due}
 
--- A guest, the regions of its memory, what its console put out and nobody has taken yet, which queues are due, and the limits
--- of each service.
+-- A guest, the regions of its memory, what its console put out and nobody has taken yet, which queues are due, the limits of
+-- each service, and its further devices.
 pub record RacingSession : Type 0 where
   pub guest : RacingGuest
   pub regions : List RegionSpec
   pub output : Waiting
   pub due : Due
   pub limits : LookLimits
+  pub further : Further
 
--- as it is made: nothing waits, and nothing is due
+-- as it is made: nothing waits, and nothing is due; a further device is added to it
 abbrev pub new_session : RacingSpec → RacingSession
 new_session spec = record {
   guest = fresh_guest spec.guest;
@@ -42,6 +44,7 @@ new_session spec = record {
   output = none_waiting spec.outlet;
   due = none_due;
   limits = spec.limits;
+  further = no_devices;
 }
 
 -- A memory of these regions before a call looks at it: these bytes stand there, from its first address on. Each clause holds of
@@ -78,9 +81,13 @@ with_guest guest bytes due session = record session {
   due = due;
 }
 
+-- whether any queue is due
+abbrev pub is_due_in : RacingSession → Bool
+is_due_in session = is_any_due session.due || is_further_due session.further
+
 -- what a call came to that isn't refused, by whether operations began
 abbrev pub came_to : Bool → RacingSession → Progress
-came_to asks session = progress_by (is_any_due session.due) asks
+came_to asks session = progress_by (is_due_in session) asks
 
 -- ---- registers
 
@@ -108,7 +115,8 @@ ServesIf true limits limit queue before after reply = IsServedAgain true limits 
     before.guest after.guest before.output after.output queue reply
 ServesIf false limits limit queue before after reply = (after ≡ before) × (reply ≡ Done)
 
--- Each queue that is due is served once, one after another. What these services leave is due then, and nothing else.
+-- Each queue that is due is served once, one after another, those of the further devices last. What these services leave is due
+-- then, and nothing else.
 pub record GoesOn (stood : List ℕ) (old new : RacingSession) (answer : Result Progress Refusal) : Type 0 where
   pub looked : Between
   pub received : Between
@@ -120,8 +128,10 @@ pub record GoesOn (stood : List ℕ) (old new : RacingSession) (answer : Result 
       (record { guest = old.guest; output = old.output.bytes; seen = unseen old.regions stood }) looked reply_block
   pub receive : ServesIf old.due.receive old.limits old.output.limit queue.Receive looked received reply_receive
   pub transmit : ServesIf old.due.transmit old.limits old.output.limit queue.Transmit received transmitted reply_transmit
-  pub rest : new ≡ with_guest transmitted.guest transmitted.output
-      (due_after reply_transmit (due_after reply_receive (due_after reply_block none_due))) old
+  pub seen : Sightings
+  pub further : ServesDue (service_limits old.limits) transmitted.seen seen old.further new.further
+  pub rest : new ≡ record (with_guest transmitted.guest transmitted.output
+      (due_after reply_transmit (due_after reply_receive (due_after reply_block none_due))) old) { further = new.further }
   pub answer_is : answer ≡ answer_by reply_transmit (came_to (has_asked (in_flight old.guest) (in_flight new.guest)) new)
 
 -- ---- what comes from outside

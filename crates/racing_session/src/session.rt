@@ -3,9 +3,10 @@
 ghost use Rattle.std.specs.Prelude.{◌≡◌, map, IfErr, IfOk, OnOk};
 ghost use Rattle.std.specs.Vec.{vec_items};
 ghost use Rattle.racing_session.specs.Judging.{IsAccepted, IsRefusedFor};
-ghost use Rattle.racing_session.specs.Session.{new_session, waits_of};
+ghost use Rattle.racing_session.specs.Session.{is_due_in, new_session, waits_of};
 
 mod console;
+mod devices;
 mod disk;
 mod memory;
 mod place;
@@ -13,6 +14,7 @@ mod registers;
 
 use crate::due::Due;
 use crate::fault::RacingFault;
+use crate::further::Further;
 use crate::memory::{LentMemory, are_words_of};
 use crate::spec::RacingSpec;
 use crate::told::Waits;
@@ -34,10 +36,12 @@ pub struct RacingSession<A: Allocator = Global> {
     output: OutputQueue<A>,
     due: Due,
     limits: LookLimits,
+    further: Further<A>,
 }
 
 impl<A: Allocator> Model for RacingSession<A> {
     ghost use Rattle.guest_memory.specs.Faults.{zeroed_regions};
+    ghost use Rattle.device_list.specs.List.{AreSoundDevices};
     ghost use Rattle.racing_guest.specs.Guest.{IsSoundGuest};
     ghost use Rattle.racing_session.specs.Session.{RacingSession};
 
@@ -49,9 +53,11 @@ impl<A: Allocator> Model for RacingSession<A> {
       output = s.output;
       due = s.due;
       limits = s.limits;
+      further = s.further;
     } };
 
-    ghost invariant = { λ s. IsSoundGuest (zeroed_regions s.memory) s.guest };
+    ghost invariant = { λ s. IsSoundGuest (zeroed_regions s.memory) s.guest
+        × AreSoundDevices (zeroed_regions s.memory) s.further.devices };
 }
 
 impl<A: Allocator + Copy> RacingSession<A> {
@@ -73,12 +79,16 @@ impl<A: Allocator + Copy> RacingSession<A> {
         let Ok(guest) = RacingGuest::new(alloc, &spec.guest) else {
             return Err(RacingFault::NoMemory);
         };
+        let Ok(further) = Further::new(alloc) else {
+            return Err(RacingFault::NoMemory);
+        };
         Ok(RacingSession {
             guest,
             memory: LentMemory::new(spec.regions, words),
             output,
             due: Due::none(),
             limits: spec.limits,
+            further,
         })
     }
 }
@@ -89,6 +99,13 @@ impl<A: Allocator> RacingSession<A> {
         ensures { result ≡ self.now.due }
     {
         self.due
+    }
+
+    /// Whether any queue is due, of the guest's own devices or of a further one.
+    pub fn is_any_due(&self) -> bool
+        ensures { result ≡ is_due_in self.now }
+    {
+        self.due.is_any() | self.further.is_due()
     }
 
     /// What waits for the guest and for its host.

@@ -28,3 +28,20 @@ pub struct Typed {
     pub progress: Progress,
     pub waits: Waits,
 }
+
+/// What waits for a further device's driver and for its host.
+#[derive(Clone, Copy, Debug, PartialEq, Eq)]
+pub struct DeviceWaits {
+    /// InterruptStatus of its window (4.2.2).
+    pub irq: u8,
+    /// How many bytes the host takes now of what the driver sent, where something waits: the oldest frame, or all output.
+    pub sent: Option<usize>,
+}
+
+/// What became of bytes that were handed to a further device, or over to its host.
+#[derive(Clone, Copy, Debug, PartialEq, Eq)]
+pub struct Handed {
+    /// How many were taken: the first ones. A frame is taken whole, or none of it is, and what a driver sent is.
+    pub taken: usize,
+    pub progress: Progress,
+}

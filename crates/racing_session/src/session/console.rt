@@ -26,7 +26,7 @@ impl<A: Allocator> RacingSession<A> {
         self.due = self.due.by(GuestQueue::Receive, so_far);
         Typed {
             taken,
-            progress: progress_by(self.due.is_any(), false),
+            progress: progress_by(self.is_any_due(), false),
             waits: self.waits(),
         }
     }

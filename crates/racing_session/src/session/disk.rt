@@ -91,7 +91,7 @@ impl<A: Allocator> RacingSession<A> {
         self.due = self.due.by(GuestQueue::Block, so_far);
         let asks = has_asked_by(said, before, self.guest.taken());
         Told {
-            answer: Ok(progress_by(self.due.is_any(), asks)),
+            answer: Ok(progress_by(self.is_any_due(), asks)),
             waits: self.waits(),
         }
     }

@@ -8,9 +8,11 @@ ghost use Rattle.racing_guest.specs.declared.reply.GuestQueue.{GuestQueue};
 ghost use Rattle.racing_guest.specs.Guest.{IsSoundGuest};
 ghost use Rattle.racing_guest.specs.Memory.{guest_fits};
 ghost use Rattle.racing_guest.specs.Place.{has_flights};
+ghost use Rattle.device_list.specs.List.{AreSoundDevices, are_at_work, devices_fit};
 ghost use Rattle.racing_session.specs.Memory.{IsKeptFor, MayHave, is_busy, with_regions};
 
 use crate::fault::MemoryRefusal;
+use crate::further::Further;
 use crate::memory::{LentMemory, are_words_of};
 use crate::session::RacingSession;
 use guest_memory::{RegionFault, Regions, fault_of_regions};
@@ -20,11 +22,13 @@ use std::sync::atomic::AtomicU64;
 use std_alloc::vec::Lodged;
 
 impl<A: Allocator> RacingSession<A> {
-    /// Whether a queue is due, or an operation of the disk is in flight.
+    /// Whether a queue is due, or an operation of a disk is in flight.
     pub fn is_busy(&self) -> bool
         ensures { result ≡ is_busy self.now }
     {
-        self.due.is_any() || self.guest.has_flights(GuestQueue::Block)
+        self.is_any_due()
+            || self.guest.has_flights(GuestQueue::Block)
+            || self.further.devices().are_at_work()
     }
 
     /// Gives the guest this memory in the place of the one before: these regions over the words that its host lends, a run for each.
@@ -52,6 +56,9 @@ impl<A: Allocator> RacingSession<A> {
         if !fits(&self.guest, &memory) {
             return Err(MemoryRefusal::QueueOutside);
         }
+        if !devices_fit(&self.further, &memory) {
+            return Err(MemoryRefusal::QueueOutside);
+        }
         self.memory = memory;
         Ok(())
     }
@@ -65,4 +72,14 @@ fn fits<A: Allocator>(guest: &RacingGuest<A>, memory: &LentMemory<A>) -> bool
 {
     let regions = memory.regions();
     guest.fits(&memory.over(&regions))
+}
+
+// Whether each ready queue of the further devices could be made ready over this memory.
+fn devices_fit<A: Allocator>(further: &Further<A>, memory: &LentMemory<A>) -> bool
+    ensures fits { result ≡ devices_fit (zeroed_regions memory.now) further.now.devices }
+    ensures sound { IsTrue result → are_at_work further.now.devices ≡ false → (m : Memory) → AreSoundDevices m further.now.devices
+        → AreSoundDevices (zeroed_regions memory.now) further.now.devices }
+{
+    let regions = memory.regions();
+    further.devices().fits(&memory.over(&regions))
 }

@@ -5,7 +5,7 @@ ghost use Rattle.guest_memory.specs.Memory.{SameRange};
 ghost use Rattle.mmio_window.specs.Interrupts.{interrupt_bits};
 ghost use Rattle.shared_memory.specs.Sightings.{memory};
 ghost use Rattle.racing_memory.specs.Past.{sightings_of};
-ghost use Rattle.racing_guest.specs.Guest.{IsSoundGuest, register, window_of, write_waits};
+ghost use Rattle.racing_guest.specs.Guest.{IsSoundGuest, register, service_limits, window_of, write_waits};
 ghost use Rattle.racing_session.specs.declared.progress.Refusal.{Refusal};
 ghost use Rattle.racing_session.specs.Answering.{answer_by, has_asked};
 ghost use Rattle.racing_session.specs.Session.{GoesOn, IsWritten, ServesIf, came_to, in_flight, waits_of};
@@ -19,6 +19,7 @@ use output_queue::OutputQueue;
 use racing_guest::{GuestQueue, GuestWindow, RacingGuest, Reply};
 use racing_hosted_disk::LookLimits;
 use racing_memory::RacingMemory;
+use served_memory::{Limits, Raced};
 use std::alloc::Allocator;
 
 impl<A: Allocator> RacingSession<A> {
@@ -49,8 +50,8 @@ impl<A: Allocator> RacingSession<A> {
         self.told(reply, before)
     }
 
-    /// Serves each queue that is due once: the block device's, the console's for input and that for output. What is left then is
-    /// due again.
+    /// Serves each queue that is due once: the block device's, the console's for input and that for output, and then those of the
+    /// further devices. What is left then is due again.
     pub fn go_on(&mut self) -> Told
         ghost stood: { List ℕ }
         ensures goes_on { GoesOn stood self.old self.new result.answer }
@@ -58,26 +59,14 @@ impl<A: Allocator> RacingSession<A> {
     {
         let before = self.guest.taken();
         let regions = self.memory.regions();
-        let mut mem = self.memory.over(&regions);
+        let mut raced = Raced(self.memory.over(&regions));
+        let mem = &mut raced.0;
         let (due, limits, out) = (self.due, self.limits, &mut self.output);
         let guest = &mut self.guest;
-        let block = serve_if(due.block, guest, GuestQueue::Block, &mut mem, limits, out);
-        let receive = serve_if(
-            due.receive,
-            guest,
-            GuestQueue::Receive,
-            &mut mem,
-            limits,
-            out,
-        );
-        let transmit = serve_if(
-            due.transmit,
-            guest,
-            GuestQueue::Transmit,
-            &mut mem,
-            limits,
-            out,
-        );
+        let block = serve_if(due.block, guest, GuestQueue::Block, mem, limits, out);
+        let receive = serve_if(due.receive, guest, GuestQueue::Receive, mem, limits, out);
+        let transmit = serve_if(due.transmit, guest, GuestQueue::Transmit, mem, limits, out);
+        self.further.go_on(&mut raced, service_limits(limits));
         self.due = Due::none().after(block).after(receive).after(transmit);
         self.told(transmit, before)
     }
@@ -89,7 +78,7 @@ impl<A: Allocator> RacingSession<A> {
     {
         let asks = has_asked(before, self.guest.taken());
         Told {
-            answer: answer_by(reply, progress_by(self.due.is_any(), asks)),
+            answer: answer_by(reply, progress_by(self.is_any_due(), asks)),
             waits: self.waits(),
         }
     }
@@ -107,6 +96,16 @@ impl<A: Allocator> RacingSession<A> {
             GuestWindow::Block => self.guest.block().window().last_fault(),
             GuestWindow::Console => self.guest.console().window().last_fault(),
         }
+    }
+}
+
+// How much one service of a queue may do that isn't the disk's.
+pub(super) fn service_limits(limits: LookLimits) -> Limits
+    ensures { result ≡ service_limits limits }
+{
+    Limits {
+        budget: limits.budget,
+        rounds: limits.rounds,
     }
 }
 
