@@ -3,7 +3,7 @@
  * inside the guest's memory, or of a ZEROES inside its disk, and its bytes inside the disk. Those that are in flight are those
  * that began and were neither completed nor dropped. None begins while the slot is held.
  */
-#include "flights.h"
+#include "sessions.h"
 
 #include <stdlib.h>
 #include <string.h>

@@ -4,7 +4,7 @@
  * what it waits for. Now and then the pages that a service changes are compared with those that are marked. A service that pauses
  * is brought to its end, and others are served meanwhile.
  */
-#include "further.h"
+#include "sessions.h"
 
 #include <string.h>
 

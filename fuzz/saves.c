@@ -1,8 +1,7 @@
 #include <stdbool.h>
 #include <string.h>
 
-#include "flights.h"
-#include "saves.h"
+#include "sessions.h"
 #include "shut_heap.h"
 
 enum { ROOM = 1 << 20, ONE_IN = 16, FRAMES = 1 << 16 };

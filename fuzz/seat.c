@@ -1,4 +1,4 @@
-#include "seat.h"
+#include "sessions.h"
 
 #include <stdlib.h>
 #include <string.h>

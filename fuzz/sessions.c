@@ -23,9 +23,7 @@
 #include <stdlib.h>
 #include <string.h>
 
-#include "flights.h"
-#include "further.h"
-#include "saves.h"
+#include "sessions.h"
 #include "shut_heap.h"
 
 enum { SECTOR = 512, TAKEN_AT_ONCE = 1 << 16 };

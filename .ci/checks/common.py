@@ -2,6 +2,7 @@
 import functools
 import os
 import pathlib
+import re
 import subprocess
 import sys
 
@@ -23,6 +24,12 @@ def pages():
 def called(*words, **how):
     """What a call of a tool came to, from the top of the repository."""
     return subprocess.run(words, **{"capture_output": True, "text": True, "cwd": TOP, **how})
+
+
+def part_of(path, name):
+    """What stands below the line `== NAME` of a file, up to the next such line."""
+    found = re.search(rf"^== {re.escape(name)}\n(.*?)(?=^== |\Z)", path.read_text(encoding="utf-8"), re.MULTILINE | re.DOTALL)
+    return found[1]
 
 
 def script(*command, **how):

@@ -8,7 +8,7 @@ import shutil
 import subprocess
 import tempfile
 
-from .common import COMPILER, TOP, script
+from .common import COMPILER, TOP, called, script
 
 LINUX, EMBED = TOP / "examples/linux", TOP / "examples/embed"
 HOSTS, SUPPORT, TESTS = EMBED / "hosts", EMBED / "support", EMBED / "tests"
@@ -150,17 +150,22 @@ def full_outlet():
 CARDS = [["cards", "split-event", "split"], ["cards", "packed", "packed-event"]]
 
 
+def differing(name, printed):
+    """In what differs what a host printed from what is expected of a name."""
+    wanted = called(EMBED / "expected", name).stdout.splitlines()
+    return [line.rstrip() for line in difflib.unified_diff(wanted, printed.splitlines(), "expected", "found", n=0)]
+
+
 def flooded(sources, cards):
     """What is wrong with kvm.c over these sources of the library's functions, or nothing."""
     with tempfile.TemporaryDirectory() as folder:
         host = f"{folder}/kvm"
         parts = [HOSTS / "kvm.c", *(SUPPORT / name for name in ("cpus.c", "device_tree.c", "file_disk.c"))]
         wrong = compiled(host, ["-I", SUPPORT, *parts, *sources, "-pthread"])
-        runs = [([], "expected-guests"), (["hosted"], "expected-guests"), (["flood"], "expected-flood"), (["pair"], "expected-pair")]
-        for words, expected in () if wrong else runs + [(words, "expected-cards") for words in cards]:
+        runs = [([], "guests"), (["hosted"], "guests"), (["flood"], "flood"), (["pair"], "pair")]
+        for words, name in () if wrong else runs + [(words, "cards") for words in cards]:
             ran = subprocess.run([host, *words], capture_output=True, text=True, timeout=60)
-            wanted = (HOSTS / expected).read_text().splitlines()
-            wrong += [line.rstrip() for line in difflib.unified_diff(wanted, ran.stdout.splitlines(), expected, "found", n=0)]
+            wrong += differing(name, ran.stdout)
             wrong += ran.stderr.splitlines() if ran.returncode else []
     return wrong
 
@@ -177,7 +182,6 @@ def disks():
     if not shutil.which(COMPILER):
         return True, [f"no {COMPILER} to build its host with"]
     sources = [HOSTS / "disk.c", SUPPORT / "file_disk.c", SUPPORT / "file_ring.c"]
-    expected = (HOSTS / "expected-disk").read_text().splitlines()
     with tempfile.TemporaryDirectory() as folder:
         if not library():
             wrong = [line for source in sources for line in compiled(f"{folder}/{source.stem}.o", ["-I", SUPPORT, source, "-c"])]
@@ -186,7 +190,7 @@ def disks():
         wrong = compiled(host, ["-I", SUPPORT, *sources, *library(), "-pthread"])
         for words in () if wrong else ([], ["threads"]):
             ran = subprocess.run([host, *words], capture_output=True, text=True, timeout=60)
-            wrong += [line.rstrip() for line in difflib.unified_diff(expected, ran.stdout.splitlines(), "expected-disk", "found", n=0)]
+            wrong += differing("disk", ran.stdout)
             ways += [line.rpartition(" by ")[2] for line in ran.stderr.splitlines()[:1]]
     return not wrong, wrong or [f"two guests on files, by {' and by '.join(ways)}, whose code has {length} lines"]
 

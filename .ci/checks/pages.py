@@ -10,7 +10,7 @@ import sys
 
 from pages import anchors_of, is_elsewhere, links_of
 
-from .common import TOP, pages, script
+from .common import TOP, pages, part_of, script
 
 sys.path.insert(0, str(TOP / "crates/conformance/mutants"))
 import trace_text
@@ -119,7 +119,7 @@ def words():
 
 def events(trace, records):
     """Each line of a trace with its record; the lines before the events have none."""
-    told = iter(records.read_text().splitlines())
+    told = iter(records.splitlines())
     return [(line, next(told) if trace_text.is_event(line) else "") for line in trace.read_text().splitlines()]
 
 
@@ -198,13 +198,13 @@ def short():
 def walks():
     """The parts of examples/README that go through a trace: each has its lines in order, with their records."""
     told = (TOP / "examples/README.md").read_text(encoding="utf-8")
-    first = {"two-guests": TOP / "crates/vreplay/stdout"}
+    first = {"two-guests": (TOP / "crates/vreplay/stdout").read_text(encoding="utf-8")}
     found, wrong = 0, []
     for name, section in re.findall(r"^## ([\w-]+)\n(.*?)(?=^## |\Z)", told, re.MULTILINE | re.DOTALL):
         walk = re.search(r"^```\n(.*?)^```", section, re.MULTILINE | re.DOTALL)
         if not walk:
             continue
-        there = iter(events(TOP / f"examples/{name}.trace", first.get(name, TOP / f"examples/{name}.records")))
+        there = iter(events(TOP / f"examples/{name}.trace", first.get(name) or part_of(TOP / "examples/records", name)))
         for line in walk[1].splitlines():
             event, _, record = re.sub(r" *# .*", "", line).partition(" -> ")
             has = next((has for said, has in there if said == event), None)

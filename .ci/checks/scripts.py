@@ -6,7 +6,7 @@ import re
 import shutil
 import tempfile
 
-from .common import TOP, called
+from .common import TOP, called, part_of
 
 # Shells that scripts are read by.
 SHELLS = ("sh", "bash")
@@ -47,12 +47,13 @@ def shorten():
     with tempfile.TemporaryDirectory() as folder:
         there, to = pathlib.Path(folder, "linux-boot.trace"), pathlib.Path(folder, "to.trace")
         shutil.copy(TOP / "examples/linux-boot.trace", there)
-        shutil.copy(TOP / "examples/linux-boot.records", f"{there}.records")
+        records = part_of(TOP / "examples/records", "linux-boot")
+        pathlib.Path(f"{there}.records").write_text(records, encoding="utf-8")
         ran = called(TOP / "examples/linux/shorten", there, to)
         if ran.returncode:
             return False, (ran.stdout + ran.stderr).splitlines()
-        wrong = [f"linux-boot{suffix} came out otherwise" for suffix in (".trace", ".records")
-                 if to.with_suffix(suffix).read_bytes() != (TOP / f"examples/linux-boot{suffix}").read_bytes()]
+        wrong = [f"linux-boot{suffix} came out otherwise" for suffix, as_it_was in ((".trace", there.read_text(encoding="utf-8")), (".records", records))
+                 if to.with_suffix(suffix).read_text(encoding="utf-8") != as_it_was]
     return not wrong, wrong or ["a boot that is short stays as it is"]
 
 

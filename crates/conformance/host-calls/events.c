@@ -4,7 +4,7 @@
 
 #include "../in-process/slot.h"
 #include "../in-process/trace.h"
-#include "host.h"
+#include "calls.h"
 
 /* What stands for no bytes: no pointer of a call is null. */
 static uint8_t no_bytes[1];

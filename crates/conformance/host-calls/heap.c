@@ -1,9 +1,7 @@
 /* A heap over malloc. */
-#include "heap.h"
+#include "calls.h"
 
 #include <stdlib.h>
-
-#include "kalyubos.h"
 
 static uint64_t asked, returned, taken, first_refused;
 

@@ -1,10 +1,8 @@
 /* The calls of rows that no line of a trace is: which board there is, what is seen of it, and what a host does beside its guests. */
-#include "host.h"
+#include "calls.h"
 
 #include <stdio.h>
 #include <string.h>
-
-#include "heap.h"
 
 enum { MOST_IMAGE = 1 << 16, MOST_SLOTS = 65, SHOWN = 8 };
 

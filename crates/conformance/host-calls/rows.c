@@ -7,8 +7,7 @@
 #include <stdlib.h>
 #include <string.h>
 
-#include "kalyubos.h"
-#include "row.h"
+#include "calls.h"
 
 /* --- an answer */
 
