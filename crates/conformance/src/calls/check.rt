@@ -64,13 +64,7 @@ fn check_guests<R: AllocGlobal, W: Write>(
 ) -> io::Result<bool> {
     let local = LocalHeap::new(rt.alloc(), HEAP)?;
     let heap = RefusingHeap::new(&local);
-    check_rows(
-        rt,
-        file,
-        rows,
-        &mut Guests::new(rt.alloc(), &local, &heap),
-        out,
-    )
+    check_rows(rt, file, rows, &mut Guests::new(rt.alloc(), &heap), out)
 }
 
 // Checks these rows of a subject, if that could be made.

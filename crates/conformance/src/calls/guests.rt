@@ -2,6 +2,7 @@
 
 mod boards;
 mod driver;
+mod refusing;
 mod runs;
 mod snapshots;
 mod stops;
@@ -12,36 +13,29 @@ use crate::calls::memory::regions_of;
 use crate::calls::subject::{Answered, Stuck, Subject};
 use crate::calls::words::Words;
 use board::{Backing, Board, Event, Extent, RegionSpec, Regions, SlotSpec};
-use linked_list_allocator::LocalHeap;
+pub(crate) use refusing::Refusing;
 use sector_cache::ScriptedImage;
 use std::alloc::{AllocError, Allocator, Global};
 pub(crate) use stops::Stops;
-use test_support::RefusingHeap;
 use trace::event_of_line;
 
 /// A board, and what the next one is asked for.
 #[derive(Drop)]
-pub(crate) struct Guests<'h, B: Allocator> {
+pub(crate) struct Guests<H: Refusing> {
     alloc: Global,
-    local: &'h LocalHeap,
-    heap: &'h RefusingHeap<B>,
+    heap: H,
     image: Vec<u8>,
     failing: Vec<u64>,
     slots: Vec<SlotSpec>,
-    events: Vec<Event<&'h RefusingHeap<B>>, &'h RefusingHeap<B>>,
+    events: Vec<Event<H>, H>,
     refused: u64,
-    board: Option<Board<ScriptedImage, &'h RefusingHeap<B>>>,
+    board: Option<Board<ScriptedImage, H>>,
 }
 
-impl<'h, B: Allocator> Guests<'h, B> {
-    pub(crate) fn new(
-        alloc: Global,
-        local: &'h LocalHeap,
-        heap: &'h RefusingHeap<B>,
-    ) -> Guests<'h, B> {
+impl<H: Refusing> Guests<H> {
+    pub(crate) fn new(alloc: Global, heap: H) -> Guests<H> {
         Guests {
             alloc,
-            local,
             heap,
             image: Vec::new(alloc),
             failing: Vec::new(alloc),
@@ -56,7 +50,7 @@ impl<'h, B: Allocator> Guests<'h, B> {
     fn begin(&mut self, words: &mut Words<'_>, answer: &mut String) -> Answered {
         let image = image_of(self.alloc, words.u32())?;
         let failing = numbers_of(self.alloc, &words.bytes(self.alloc)?)?;
-        *self = Guests::new(self.alloc, self.local, self.heap);
+        *self = Guests::new(self.alloc, self.heap);
         self.image = image;
         self.failing = failing;
         put_word(answer, "ok")
@@ -90,7 +84,7 @@ impl<'h, B: Allocator> Guests<'h, B> {
     }
 }
 
-impl<B: Allocator> Subject for Guests<'_, B> {
+impl<H: Refusing> Subject for Guests<H> {
     fn call(&mut self, words: &mut Words<'_>, answer: &mut String) -> Answered {
         match words.name() {
             "image" => self.begin(words, answer),
@@ -98,7 +92,7 @@ impl<B: Allocator> Subject for Guests<'_, B> {
             "up" => self.bring_up(words, answer),
             "event" => self.plan(words, answer),
             "replay" => self.replay(words, answer),
-            "used" => put_number(answer, self.local.used() as u64),
+            "used" => put_number(answer, self.heap.used()),
             "board" => self.make_board(words, answer),
             _ => self.call_board(words, answer),
         }

@@ -3,8 +3,8 @@
 ghost use Rattle.std.specs.Prelude.{All};
 ghost use Rattle.board.specs.Line.{HasInterruptWords};
 
-use super::Guests;
 use super::runs::run_some;
+use super::{Guests, Refusing};
 use crate::calls::answer::{put_flag, put_number, put_word, written};
 use crate::calls::subject::{Answered, Stuck};
 use crate::calls::words::Words;
@@ -12,13 +12,12 @@ use board::{Board, BoardFault, Event, Image, Record, Refused, SlotSpec};
 use sector_cache::ScriptedImage;
 use std::alloc::Allocator;
 use std::str;
-use test_support::RefusingHeap;
 use trace::print_records;
 
 /// The board of guests, or why it is refused and whether the image comes back as it was.
-pub(super) type Made<'h, B> = Result<Board<ScriptedImage, &'h RefusingHeap<B>>, (BoardFault, bool)>;
+pub(super) type Made<H> = Result<Board<ScriptedImage, H>, (BoardFault, bool)>;
 
-impl<'h, B: Allocator> Guests<'h, B> {
+impl<H: Refusing> Guests<H> {
     /// Makes a call of a board, or another one.
     pub(super) fn call_board(&mut self, words: &mut Words<'_>, answer: &mut String) -> Answered {
         match words.name() {
@@ -39,7 +38,7 @@ impl<'h, B: Allocator> Guests<'h, B> {
     }
 
     /// The board that was asked for.
-    pub(super) fn made(&self, cache: u32) -> Result<Made<'h, B>, Stuck> {
+    pub(super) fn made(&self, cache: u32) -> Result<Made<H>, Stuck> {
         let failing = self.failing.to_vec(self.alloc)?;
         let Ok(image) = ScriptedImage::new(self.image.to_vec(self.alloc)?, failing) else {
             return Err(Stuck::Conditions);
@@ -66,11 +65,7 @@ impl<'h, B: Allocator> Guests<'h, B> {
     }
 
     /// Handles an event, with room for its record and the nth request for other memory refused: the record.
-    pub(super) fn handle(
-        &mut self,
-        event: Event<&'h RefusingHeap<B>>,
-        answer: &mut String,
-    ) -> Answered {
+    pub(super) fn handle(&mut self, event: Event<H>, answer: &mut String) -> Answered {
         let mut records = Vec::with_capacity(self.heap, 1)?;
         if !self.run_one(event, &mut records)? {
             return Err(Stuck::NoMemory);
@@ -79,11 +74,7 @@ impl<'h, B: Allocator> Guests<'h, B> {
     }
 
     // Handles it, and appends its record: whether there was room for that.
-    fn run_one(
-        &mut self,
-        event: Event<&'h RefusingHeap<B>>,
-        records: &mut Vec<Record<&'h RefusingHeap<B>>, &'h RefusingHeap<B>>,
-    ) -> Result<bool, Stuck>
+    fn run_one(&mut self, event: Event<H>, records: &mut Vec<Record<H>, H>) -> Result<bool, Stuck>
         requires { All HasInterruptWords records.old.items }
         ensures { All HasInterruptWords records.new.items }
     {
@@ -113,11 +104,11 @@ impl<'h, B: Allocator> Guests<'h, B> {
     /// want of memory, the image comes back, and so does all memory; and where each slot takes some.
     fn boards(&self, words: &mut Words<'_>, answer: &mut String) -> Answered {
         let cache = words.u32();
-        let used = self.local.used();
+        let used = self.heap.used();
         let (_, requests) = self.refused_at(0, cache)?;
         for n in 1..=requests {
             let (refusal, _) = self.refused_at(n, cache)?;
-            if refusal != Some((BoardFault::NoMemory, true)) || self.local.used() != used {
+            if refusal != Some((BoardFault::NoMemory, true)) || self.heap.used() != used {
                 return put_number(answer, n);
             }
         }

@@ -1,10 +1,9 @@
 //! A driver that brings a device up: the block device, the console, or a further device by its number.
 
-use super::Guests;
+use super::{Guests, Refusing};
 use crate::calls::answer::put_word;
 use crate::calls::subject::Answered;
 use crate::calls::words::Words;
-use std::alloc::Allocator;
 
 /// What a driver writes that accepts VERSION_1 alone (3.1.1): offsets and values.
 static NEGOTIATED: [(u16, u32); 5] = [
@@ -24,7 +23,7 @@ static READY: [(u16, u32); 5] = [
     (0x070, 0xf),
 ];
 
-impl<'h, B: Allocator> Guests<'h, B> {
+impl<H: Refusing> Guests<H> {
     /// A driver brings a device of a slot up with one queue, of so many entries.
     pub(super) fn bring_up(&mut self, words: &mut Words<'_>, answer: &mut String) -> Answered {
         let (slot, window) = (words.word(), words.word());

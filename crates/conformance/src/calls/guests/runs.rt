@@ -3,24 +3,23 @@
 ghost use Rattle.std.specs.Prelude.{◌≤◌, All, length};
 ghost use Rattle.board.specs.Line.{HasInterruptWords};
 
-use super::Guests;
+use super::{Guests, Refusing};
 use crate::calls::answer::{put_number, written};
 use crate::calls::subject::{Answered, Stuck};
 use crate::calls::words::Words;
 use board::{Board, Event, Image, Record, Reply};
 use std::alloc::Allocator;
-use test_support::RefusingHeap;
 
 /// What a run came to of which a request for memory was refused.
 #[derive(Drop)]
-struct Tried<'h, B: Allocator> {
-    records: Vec<Record<&'h RefusingHeap<B>>, &'h RefusingHeap<B>>,
+struct Tried<H: Refusing> {
+    records: Vec<Record<H>, H>,
     has_stopped: bool,
     is_noted: bool,
     requests: u64,
 }
 
-impl<'h, B: Allocator> Guests<'h, B> {
+impl<H: Refusing> Guests<H> {
     /// Runs the list over new boards, each with another request for memory refused, alone or with all behind it until the run
     /// stops, and goes on with ample memory: how often a run stops, and how often an event finds no memory. Where another
     /// record isn't that of ample memory, or what is noted of a slot is wrong: the request's number.
@@ -41,7 +40,7 @@ impl<'h, B: Allocator> Guests<'h, B> {
     }
 
     // Runs the list with the nth request refused, and goes on from where it stops.
-    fn tried(&self, cache: u32, alone: bool, n: u64) -> Result<Tried<'h, B>, Stuck> {
+    fn tried(&self, cache: u32, alone: bool, n: u64) -> Result<Tried<H>, Stuck> {
         let Ok(mut board) = self.made(cache)? else {
             return Err(Stuck::Conditions);
         };

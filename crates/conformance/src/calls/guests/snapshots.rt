@@ -1,13 +1,13 @@
 //! A slot of a board, saved as a snapshot and restored.
 
-use super::Guests;
+use super::{Guests, Refusing};
 use crate::calls::answer::{put_bytes, put_number, put_result, put_word};
 use crate::calls::subject::{Answered, Stuck};
 use crate::calls::words::Words;
 use board::{Board, Bytes, Event, EventKind, Image, RestoreRefusal, SaveRefusal};
 use std::alloc::{AllocError, Allocator};
 
-impl<'h, B: Allocator> Guests<'h, B> {
+impl<H: Refusing> Guests<H> {
     /// Makes a call of snapshots, or that of an event.
     pub(super) fn call_snapshots(
         &mut self,

@@ -1,6 +1,6 @@
 //! Replays of a text of which a request for memory is refused.
 
-use super::Guests;
+use super::{Guests, Refusing};
 use crate::calls::answer::put_result;
 use crate::calls::subject::{Answered, Stuck};
 use crate::calls::words::Words;
@@ -9,7 +9,7 @@ use sector_cache::{Image, ScriptedImage};
 use std::alloc::Allocator;
 use std::io::{Read, Write};
 
-impl<B: Allocator> Guests<'_, B> {
+impl<H: Refusing> Guests<H> {
     /// Replays a text over the image that was asked for, with the nth request for memory refused, and those behind it: what it
     /// came to.
     pub(super) fn replay(&self, words: &mut Words<'_>, answer: &mut String) -> Answered {
