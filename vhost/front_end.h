@@ -30,7 +30,8 @@ struct front_end {
     bool has_features, is_refused; /* the last message was well formed, and what it asks for isn't done */
     unsigned drain;                /* for how many seconds a stop waits */
     struct memory memory;
-    struct page_log log;
+    struct page_log *log; /* NULL where it brought none */
+    bool is_logged;       /* pages that are written to are marked there */
     struct queue queues[QUEUES];
 };
 

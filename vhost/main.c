@@ -109,6 +109,7 @@ static void prepare_signals(sigset_t *ends)
     struct sigaction action = { .sa_handler = interrupt };
     (void)sigaction(SIGUSR1, &action, NULL);
     (void)signal(SIGPIPE, SIG_IGN);
+    (void)signal(SIGXFSZ, SIG_IGN); /* a limit of files is an error of what passes it */
     sigemptyset(ends);
     sigaddset(ends, SIGTERM);
     sigaddset(ends, SIGINT);

@@ -6,6 +6,7 @@
 #include "mapping.h"
 
 #include <errno.h>
+#include <stdlib.h>
 #include <string.h>
 #include <sys/mman.h>
 #include <sys/stat.h>
@@ -16,7 +17,7 @@ static _Thread_local struct mapping *watched;
 
 /* ---- the log */
 
-const char *page_log_map(struct page_log *log, int file, uint64_t len, uint64_t offset)
+const char *page_log_map(struct page_log **log, int file, uint64_t len, uint64_t offset)
 {
     struct stat stat;
     if (file < 0 || fstat(file, &stat) != 0 || !S_ISREG(stat.st_mode))
@@ -25,20 +26,26 @@ const char *page_log_map(struct page_log *log, int file, uint64_t len, uint64_t 
         return "the log of pages has no bytes, or no place in a file";
     if ((uint64_t)stat.st_size < offset + len)
         return "the log of pages passes the end of its file";
-    uint8_t *bits = mmap(NULL, len, PROT_READ | PROT_WRITE, MAP_SHARED, file, (off_t)offset);
-    if (bits == MAP_FAILED)
+    struct page_log *made = malloc(sizeof *made);
+    uint8_t *bits = made != NULL ? mmap(NULL, len, PROT_READ | PROT_WRITE, MAP_SHARED, file, (off_t)offset) : MAP_FAILED;
+    if (bits == MAP_FAILED) {
+        free(made);
         return strerror(errno);
-    page_log_unmap(log);
-    log->bits = bits;
-    log->len = len;
+    }
+    made->bits = bits;
+    made->len = len;
+    atomic_init(&made->shares, 1);
+    page_log_drop(*log);
+    *log = made;
     return NULL;
 }
 
-void page_log_unmap(struct page_log *log)
+void page_log_drop(struct page_log *log)
 {
-    if (log->bits != NULL)
-        munmap(log->bits, log->len);
-    *log = (struct page_log){ 0 };
+    if (log == NULL || atomic_fetch_sub(&log->shares, 1) != 1)
+        return;
+    munmap(log->bits, log->len);
+    free(log);
 }
 
 /* ---- mapping */
@@ -68,19 +75,21 @@ static uint8_t *reserve(uint64_t len, uint8_t **all)
     return at + (HUGE_PAGE - (uintptr_t)at % HUGE_PAGE) % HUGE_PAGE;
 }
 
-const char *mapping_open(struct mapping *mapping, const struct memory *memory, const struct page_log *log)
+const char *mapping_open(struct mapping *mapping, const struct memory *memory, struct page_log *log)
 {
     memset(mapping, 0, sizeof *mapping);
     mapping->memory = *memory;
-    mapping->log = log;
     const char *why = join(mapping);
     if (why != NULL)
         return why;
-    if (log->is_on && memory_end(memory) / PAGE > log->len * 8)
+    if (log != NULL && memory_end(memory) / PAGE > log->len * 8)
         return "the log of pages is too short for the memory";
+    if (log != NULL)
+        atomic_fetch_add(&log->shares, 1);
+    mapping->log = log;
     mapping->len = memory_end(memory) + HUGE_PAGE;
     mapping->base = mapping->data = reserve(mapping->len, &mapping->all);
-    if (mapping->base != NULL && log->is_on)
+    if (mapping->base != NULL && log != NULL)
         mapping->data = reserve(mapping->len, &mapping->data_all);
     if (mapping->base == NULL || mapping->data == NULL) {
         mapping_close(mapping);
@@ -94,23 +103,11 @@ static bool cover(uint8_t *at, uint64_t len)
     return mmap(at, len, PROT_READ | PROT_WRITE, MAP_PRIVATE | MAP_ANONYMOUS | MAP_NORESERVE | MAP_FIXED, -1, 0) != MAP_FAILED;
 }
 
-bool mapping_scratch(struct mapping *mapping)
-{
-    bool is_done = true;
-    for (unsigned i = 0; i < mapping->regions_len; i++) {
-        const struct kalyubos_region *it = &mapping->regions[i];
-        is_done &= cover(mapping->base + it->base, it->len);
-        if (mapping->data != mapping->base)
-            is_done &= cover(mapping->data + it->base, it->len);
-    }
-    return is_done;
-}
-
-static bool map_files(uint8_t *base, const struct memory *memory, int protection)
+static bool map_files(uint8_t *base, const struct memory *memory, int protection, int sharing)
 {
     for (unsigned i = 0; i < memory->len; i++) {
         const struct region *it = &memory->regions[i];
-        if (mmap(base + it->guest, it->size, protection, MAP_SHARED | MAP_NORESERVE | MAP_FIXED, it->file, (off_t)it->offset) == MAP_FAILED)
+        if (mmap(base + it->guest, it->size, protection, sharing | MAP_NORESERVE | MAP_FIXED, it->file, (off_t)it->offset) == MAP_FAILED)
             return false;
     }
     return true;
@@ -119,10 +116,16 @@ static bool map_files(uint8_t *base, const struct memory *memory, int protection
 const char *mapping_guest(struct mapping *mapping)
 {
     bool has_two = mapping->data != mapping->base;
-    if (map_files(mapping->base, &mapping->memory, has_two ? PROT_READ : PROT_READ | PROT_WRITE) &&
-        (!has_two || map_files(mapping->data, &mapping->memory, PROT_READ | PROT_WRITE)))
+    if (map_files(mapping->base, &mapping->memory, has_two ? PROT_READ : PROT_READ | PROT_WRITE, MAP_SHARED) &&
+        (!has_two || map_files(mapping->data, &mapping->memory, PROT_READ | PROT_WRITE, MAP_SHARED)))
         return NULL;
     return "a region of memory can't be mapped";
+}
+
+bool mapping_part(struct mapping *mapping)
+{
+    return map_files(mapping->base, &mapping->memory, PROT_READ | PROT_WRITE, MAP_PRIVATE) &&
+           (mapping->data == mapping->base || map_files(mapping->data, &mapping->memory, PROT_READ | PROT_WRITE, MAP_PRIVATE));
 }
 
 void mapping_close(struct mapping *mapping)
@@ -131,14 +134,16 @@ void mapping_close(struct mapping *mapping)
         munmap(mapping->all, mapping->len);
     if (mapping->data_all != NULL)
         munmap(mapping->data_all, mapping->len);
+    page_log_drop(mapping->log);
     mapping->all = mapping->data_all = NULL;
+    mapping->log = NULL;
 }
 
 /* ---- marks */
 
 void mapping_mark(const struct mapping *mapping, uint64_t guest, uint64_t len)
 {
-    if (!mapping->log->is_on || len == 0)
+    if (mapping->log == NULL || len == 0)
         return;
     for (uint64_t page = guest / PAGE; page <= (guest + len - 1) / PAGE; page++)
         __atomic_fetch_or(&mapping->log->bits[page / 8], (uint8_t)(1 << page % 8), __ATOMIC_SEQ_CST);
@@ -163,7 +168,7 @@ void mapping_watch(struct mapping *mapping)
 /* A store to a page that is logged: opens it. Where too many are open all are shut first, since each store is one step. */
 static bool open_page(struct mapping *mapping, uint64_t at)
 {
-    if (!mapping->log->is_on || at >= memory_end(&mapping->memory))
+    if (mapping->log == NULL || at >= memory_end(&mapping->memory))
         return false;
     if (mapping->opened_len == OPENED)
         mapping_shut(mapping);
@@ -179,7 +184,7 @@ static bool open_page(struct mapping *mapping, uint64_t at)
 static bool cover_cut(struct mapping *mapping, uint8_t *address)
 {
     mapping->is_cut = 1;
-    if (mapping->log->bits != NULL && address >= mapping->log->bits && address < mapping->log->bits + mapping->log->len)
+    if (mapping->log != NULL && address >= mapping->log->bits && address < mapping->log->bits + mapping->log->len)
         return cover(mapping->log->bits, mapping->log->len);
     for (unsigned i = 0; i < mapping->memory.len; i++) {
         const struct region *it = &mapping->memory.regions[i];

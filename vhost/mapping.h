@@ -6,22 +6,24 @@
 #define MAPPING_H
 
 #include <signal.h>
+#include <stdatomic.h>
 #include <stdbool.h>
 #include <stdint.h>
 
 #include "kalyubos.h"
 #include "memory.h"
 
-/* The front end's log: bit p % 8 of byte p / 8 is set where page p is written to. `bits` is NULL where there is none. */
+/* The front end's log: bit p % 8 of byte p / 8 is set where page p is written to. Who last has a share of it unmaps it. */
 struct page_log {
     uint8_t *bits;
     uint64_t len;
-    bool is_on;
+    atomic_uint shares;
 };
 
-/* Maps a log that lies in a file, which stays the caller's: NULL where it is done, else why not. */
-const char *page_log_map(struct page_log *log, int file, uint64_t len, uint64_t offset);
-void page_log_unmap(struct page_log *log);
+/* Maps a log that lies in a file, which stays the caller's, in the place of another: NULL where it is done, else why not. */
+const char *page_log_map(struct page_log **log, int file, uint64_t len, uint64_t offset);
+/* Gives back a share of a log, or of none. */
+void page_log_drop(struct page_log *log);
 
 /*
  * The byte of guest-physical address g lies at base + g. Regions that touch are one region, as the library asks. No other queue's
@@ -35,7 +37,7 @@ enum { OPENED = 64 };
 struct mapping {
     uint8_t *all, *base, *data_all, *data;
     struct memory memory; /* a copy, whose files aren't owned */
-    const struct page_log *log;
+    struct page_log *log; /* NULL where nothing is logged */
     uint64_t opened[OPENED];
     unsigned opened_len;
     uint64_t len, faults;
@@ -44,11 +46,12 @@ struct mapping {
     struct kalyubos_region regions[KALYUBOS_REGIONS];
 };
 
-/* Reserves addresses for all regions, with memory in them that nobody shares. NULL where it is done, else why not. */
-const char *mapping_open(struct mapping *mapping, const struct memory *memory, const struct page_log *log);
-/* Puts unshared memory, and the guest's memory, in the place of what was there. */
-bool mapping_scratch(struct mapping *mapping);
+/* Reserves addresses for all regions, and takes a share of a log, or of none. NULL where it is done, else why not. */
+const char *mapping_open(struct mapping *mapping, const struct memory *memory, struct page_log *log);
+/* Puts the guest's memory there. */
 const char *mapping_guest(struct mapping *mapping);
+/* Puts a copy of the guest's memory in its place: what is read is the guest's, and what is written from now on is seen by nobody. */
+bool mapping_part(struct mapping *mapping);
 /* Marks the pages of these bytes; marks and shuts what a fault opened. */
 void mapping_mark(const struct mapping *mapping, uint64_t guest, uint64_t len);
 void mapping_shut(struct mapping *mapping);

@@ -66,8 +66,8 @@ static bool is_ready(const struct front_end *front_end, const struct queue *queu
 /* Has each queue go on that was held, and starts each that is ready. */
 static const char *start_ready(struct front_end *front_end)
 {
-    struct origin origin = { front_end->name,  front_end->disk,     &front_end->memory,
-                             &front_end->log, front_end->features, front_end->socket };
+    struct page_log *log = front_end->is_logged ? front_end->log : NULL;
+    struct origin origin = { front_end->name, front_end->disk, &front_end->memory, log, front_end->features, front_end->socket };
     for (unsigned i = 0; i < front_end->disk->queues; i++) {
         struct queue *queue = &front_end->queues[i];
         server_go_on(queue, &origin);
@@ -148,12 +148,12 @@ static const char *set_features(struct front_end *front_end, struct message *mes
         return "it takes features that aren't offered";
     if (runs_any(front_end) && ((features ^ front_end->features) & ~FEATURE_LOG_ALL) != 0)
         return "it changes features while a queue runs";
-    bool is_on = front_end->log.bits != NULL && (features & FEATURE_LOG_ALL) != 0;
-    if (is_on != front_end->log.is_on)
+    bool is_logged = front_end->log != NULL && (features & FEATURE_LOG_ALL) != 0;
+    if (is_logged != front_end->is_logged)
         hold_all(front_end);
     front_end->features = features;
     front_end->has_features = true;
-    front_end->log.is_on = is_on;
+    front_end->is_logged = is_logged;
     return start_ready(front_end);
 }
 
@@ -295,7 +295,7 @@ static const char *set_log(struct front_end *front_end, struct message *message)
     const char *why = page_log_map(&front_end->log, message->files[0], message->it.log.len, message->it.log.offset);
     if (why != NULL)
         return why;
-    front_end->log.is_on = (front_end->features & FEATURE_LOG_ALL) != 0;
+    front_end->is_logged = (front_end->features & FEATURE_LOG_ALL) != 0;
     why = start_ready(front_end);
     return why != NULL ? why : reply_number(front_end, message, 0);
 }
@@ -515,7 +515,9 @@ void protocol_forget(struct front_end *front_end, bool is_ending)
         front_end->queues[i].base = 0;
     }
     memory_clear(&front_end->memory);
-    page_log_unmap(&front_end->log);
+    page_log_drop(front_end->log);
+    front_end->log = NULL;
+    front_end->is_logged = false;
     front_end->features = front_end->protocol = 0;
     front_end->status = 0;
     front_end->has_features = false;

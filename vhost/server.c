@@ -23,8 +23,11 @@ enum { OF_KICK = 1000, OF_HALT };
 /* What the front end's thread wants of a queue's: at a halt nothing begins any more. */
 enum wish { RUN, HOLD, STOP };
 
-/* For how many milliseconds a cancelled transfer may take to end. */
-enum { CANCEL_TIME = 1000 };
+/* What is said of a halt: by the queue's thread that it is reached, or by the front end's that it isn't waited for any longer. */
+enum word { NO_WORD, REACHED, GIVEN_UP };
+
+/* For how many milliseconds a cancelled transfer may take to end, and a thread then to say so. */
+enum { CANCEL_TIME = 1000, WORD_TIME = 1000 };
 
 struct server {
     struct origin origin;
@@ -42,14 +45,20 @@ struct server {
     bool is_held;                    /* the thread waits for `wake`, and nothing is in flight */
     atomic_bool is_faulty;
     atomic_int owners;               /* the thread, and who started it: the last one frees */
-    atomic_int wish;                 /* of `enum wish` */
+    atomic_int wish, word;           /* of the enums above */
     atomic_uint limit;               /* for how many milliseconds a halt waits */
     uint64_t halted_at;
-    sem_t is_done, wake;             /* the thread has come to its halt; and may leave it */
+    sem_t is_reached, wake;          /* the halt; and the thread may leave it */
     pthread_t thread;
     uint64_t kicks, calls, operations, failures;
     struct flight flights[KALYUBOS_TAGS];
 };
+
+/* Whether nobody waits for this thread any longer: it begins nothing, and tells nobody. */
+static bool is_left(const struct server *server)
+{
+    return atomic_load(&server->word) == GIVEN_UP;
+}
 
 static uint64_t microseconds(void)
 {
@@ -99,6 +108,8 @@ static void settle(struct server *server, uint32_t answer)
     uint64_t tags = 0;
     server->is_due = answer == KALYUBOS_MORE;
     mapping_shut(&server->mapping);
+    if (is_left(server))
+        return;
     (void)kalyubos_guest_in_flight(&server->window.guest, &tags);
     for (uint64_t left = tags & ~server->begun; left != 0; left &= left - 1)
         begin_one(server, (unsigned)__builtin_ctzll(left));
@@ -154,7 +165,7 @@ static const char CUT[] = "it cut its memory or its log of pages";
 /* Ends the connection: the front end's thread then stops all of its queues. */
 static void let_go(struct server *server, const char *why)
 {
-    if (server->is_let_go)
+    if (server->is_let_go || is_left(server))
         return;
     server->is_let_go = true;
     say(server->origin.name, "the front end is let go: queue %u: %s", server->index, why);
@@ -274,6 +285,19 @@ static bool has_halted(struct server *server)
     return server->is_lost;
 }
 
+/* Has the word that a halt is reached. False where nobody waits for it any longer; else it is told by `is_reached`. */
+static bool take_word(struct server *server)
+{
+    int none = NO_WORD;
+    return atomic_compare_exchange_strong(&server->word, &none, REACHED);
+}
+
+static void wait_for_wake(struct server *server)
+{
+    while (sem_wait(&server->wake) != 0)
+        continue; /* a signal came */
+}
+
 /* At a halt: waits held, where that is wanted, and goes on once the front end's thread says so. False where it is to end. */
 static bool goes_on(struct server *server)
 {
@@ -281,10 +305,12 @@ static bool goes_on(struct server *server)
         return false;
     if (server->is_due) /* on hold a queue has nothing more to serve */
         settle(server, kalyubos_guest_go_on(&server->window.guest, &server->window.pending));
+    if (!take_word(server))
+        return false;
     server->is_held = true;
-    (void)sem_post(&server->is_done);
-    while (sem_wait(&server->wake) != 0)
-        continue; /* a signal came */
+    (void)sem_post(&server->is_reached);
+    wait_for_wake(server);
+    atomic_store(&server->word, NO_WORD);
     if (atomic_load(&server->wish) == STOP)
         return false;
     server->halted_at = 0; /* the next hold may be wanted already: its event comes by the ring */
@@ -292,16 +318,21 @@ static bool goes_on(struct server *server)
     return true;
 }
 
-/* Waits for transfers that were given up. Those that end late find unshared memory, but for what the kernel holds itself (O_DIRECT). */
-static void wait_for_lost(struct server *server)
+/*
+ * Waits for transfers that can't be ended. Late bytes come into a copy of the guest's memory, but for those that the kernel moves itself
+ * (O_DIRECT).
+ */
+static void wait_for_lost(struct server *server, bool is_waited_for)
 {
     struct io_uring_cqe result;
     struct disk *disk = server->origin.disk;
     unsigned lost = (unsigned)__builtin_popcountll(server->begun & ~server->ended);
     atomic_fetch_add(&disk->lost, lost);
-    (void)mapping_scratch(&server->mapping);
-    say(server->origin.name, "queue %u: %u transfers are given up: no queue starts until they have ended", server->index, lost);
-    (void)sem_post(&server->is_done);
+    if (is_waited_for) {
+        (void)mapping_part(&server->mapping);
+        say(server->origin.name, "queue %u: %u transfers are given up: no queue starts until they have ended", server->index, lost);
+        (void)sem_post(&server->is_reached);
+    }
     while ((server->begun & ~server->ended) != 0) {
         ring_wait(&server->ring, -1);
         while (ring_take(&server->ring, &result))
@@ -316,7 +347,7 @@ static void end(struct server *server)
     if (atomic_fetch_sub(&server->owners, 1) != 1)
         return;
     close(server->halt);
-    (void)sem_destroy(&server->is_done);
+    (void)sem_destroy(&server->is_reached);
     (void)sem_destroy(&server->wake);
     free(server);
 }
@@ -356,7 +387,31 @@ static void serve(struct server *server)
             continue;
         }
         wait_for_results(server, most);
+        if (is_left(server)) {
+            server->is_lost = true;
+            return;
+        }
         take_results(server);
+    }
+}
+
+/* Says that the halt is reached behind which the thread ends, and where the queue stands then. */
+static void tell_end(struct server *server)
+{
+    bool is_waited_for = take_word(server);
+    if (is_waited_for && server->is_lost && !server->layout.is_packed)
+        server->base = place_of_used(&server->mapping, &server->layout);
+    else if (is_waited_for && !server->is_lost)
+        server->base = place_tell(&server->window, &server->mapping, &server->layout, server->base);
+    if (server->mapping.is_cut)
+        let_go(server, CUT);
+    if (server->is_lost)
+        wait_for_lost(server, is_waited_for);
+    else if (is_waited_for)
+        (void)sem_post(&server->is_reached);
+    if (!is_waited_for) {
+        wait_for_wake(server);
+        atomic_fetch_sub(&server->origin.disk->lost, 1);
     }
 }
 
@@ -367,15 +422,7 @@ static void *run(void *user)
     bool is_open = open_store(server);
     if (is_open)
         serve(server);
-    if (server->is_lost) {
-        server->base = server->layout.is_packed ? server->base : place_of_used(&server->mapping, &server->layout);
-        wait_for_lost(server);
-    } else {
-        server->base = place_tell(&server->window, &server->mapping, &server->layout, server->base);
-        if (server->mapping.is_cut)
-            let_go(server, CUT);
-        (void)sem_post(&server->is_done);
-    }
+    tell_end(server);
     if (is_open) {
         server->store->kind->close(server->store);
         ring_close(&server->ring);
@@ -453,7 +500,7 @@ const char *server_start(struct queue *queue, const struct origin *origin)
     server->call = queue->call;
     server->error = queue->error;
     atomic_init(&server->owners, 2);
-    (void)sem_init(&server->is_done, 0, 0);
+    (void)sem_init(&server->is_reached, 0, 0);
     (void)sem_init(&server->wake, 0, 0);
     server->halt = eventfd(0, EFD_CLOEXEC);
     why = server->halt < 0 ? "there is no eventfd" : prepare(server, queue);
@@ -473,26 +520,55 @@ const char *server_start(struct queue *queue, const struct origin *origin)
     return NULL;
 }
 
-/* Waits until the thread has come to its halt. Signals bring it out of a write to an eventfd that the front end has filled. */
-static void wait_until_done(struct server *server)
+/*
+ * Leaves a thread to itself that hangs in a system call, as one of a file system that answers nobody. False where it has reached the
+ * halt at last. It finds a copy of the guest's memory, and ends behind its call.
+ */
+static bool give_up(struct server *server, struct queue *queue)
+{
+    int none = NO_WORD;
+    atomic_uint *lost = &server->origin.disk->lost;
+    atomic_fetch_add(lost, 1);
+    if (!atomic_compare_exchange_strong(&server->word, &none, GIVEN_UP)) {
+        atomic_fetch_sub(lost, 1);
+        return false;
+    }
+    mapping_watch(&server->mapping);
+    queue->base = server->layout.is_packed ? queue->base : place_of_used(&server->mapping, &server->layout);
+    mapping_watch(NULL);
+    (void)mapping_part(&server->mapping);
+    say(server->origin.name, "queue %u: its disk hangs, and is given up: no queue starts until it answers", queue->index);
+    (void)sem_post(&server->wake);
+    return true;
+}
+
+/*
+ * Waits until the thread has reached its halt, or is given up. Signals bring it out of a write to an eventfd that the front end has
+ * filled.
+ */
+static void wait_for_halt(struct server *server, struct queue *queue)
 {
     enum { STEP = 100000000 };
+    uint64_t until = microseconds() + 1000 * ((uint64_t)atomic_load(&server->limit) + CANCEL_TIME + WORD_TIME);
     for (;;) {
-        struct timespec until;
-        clock_gettime(CLOCK_REALTIME, &until);
-        until.tv_nsec += STEP;
-        until.tv_sec += until.tv_nsec / 1000000000;
-        until.tv_nsec %= 1000000000;
-        if (sem_timedwait(&server->is_done, &until) == 0)
+        struct timespec time;
+        clock_gettime(CLOCK_REALTIME, &time);
+        time.tv_nsec += STEP;
+        time.tv_sec += time.tv_nsec / 1000000000;
+        time.tv_nsec %= 1000000000;
+        if (sem_timedwait(&server->is_reached, &time) == 0)
             return;
         if (errno == ETIMEDOUT)
             (void)pthread_kill(server->thread, SIGUSR1);
+        if (microseconds() > until && give_up(server, queue))
+            return;
     }
 }
 
 /* Lets nothing more begin, and waits for the halt that is wanted. */
-static void halt(struct server *server, enum wish wish, unsigned seconds)
+static void halt(struct queue *queue, enum wish wish, unsigned seconds)
 {
+    struct server *server = queue->server;
     bool was_held = server->is_held;
     server->is_held = false;
     atomic_store(&server->limit, seconds * 1000);
@@ -501,23 +577,25 @@ static void halt(struct server *server, enum wish wish, unsigned seconds)
         (void)sem_post(&server->wake);
     else
         (void)eventfd_write(server->halt, 1);
-    wait_until_done(server);
+    wait_for_halt(server, queue);
 }
 
-/* Takes over where the queue of a thread stands that has ended, or waits for lost transfers alone. */
+/* Takes over where the queue of a thread stands that has ended, or is left with what is lost. */
 static void finish(struct queue *queue)
 {
     struct server *server = queue->server;
-    queue->base = server->base;
+    bool has_ended = !is_left(server);
     queue->server = NULL;
-    if (server->origin.disk->verbose)
+    if (has_ended)
+        queue->base = server->base;
+    if (has_ended && server->origin.disk->verbose)
         say(server->origin.name, "queue %u stops at %#x: %" PRIu64 " kicks, %" PRIu64 " operations, %" PRIu64 " of them failed, %" PRIu64
             " calls, %" PRIu64 " enters, %" PRIu64 " pages opened", queue->index, queue->base, server->kicks, server->operations,
             server->failures, server->calls, server->ring.enters, server->mapping.faults);
-    if (server->is_lost)
-        (void)pthread_detach(server->thread);
-    else
+    if (has_ended && !server->is_lost)
         (void)pthread_join(server->thread, NULL);
+    else
+        (void)pthread_detach(server->thread);
     end(server);
 }
 
@@ -525,7 +603,7 @@ void server_stop(struct queue *queue, unsigned seconds)
 {
     if (queue->server == NULL)
         return;
-    halt(queue->server, STOP, seconds);
+    halt(queue, STOP, seconds);
     finish(queue);
 }
 
@@ -533,8 +611,8 @@ void server_hold(struct queue *queue, unsigned seconds)
 {
     if (queue->server == NULL || queue->server->is_held)
         return;
-    halt(queue->server, HOLD, seconds);
-    if (!queue->server->is_held)
+    halt(queue, HOLD, seconds);
+    if (is_left(queue->server) || !queue->server->is_held)
         finish(queue);
 }
 

@@ -23,7 +23,7 @@ struct origin {
     const char *name;
     struct disk *disk;
     const struct memory *memory;
-    const struct page_log *log;
+    struct page_log *log; /* NULL where nothing is logged */
     uint64_t features;
     int connection; /* it is shut down where the front end has to end */
 };
@@ -32,7 +32,8 @@ struct origin {
 const char *server_start(struct queue *queue, const struct origin *origin);
 /*
  * Lets nothing more begin, waits for `seconds` for what is in flight, and puts into queue->base where the queue stands. Transfers
- * that haven't ended by then are given up: their thread waits for them alone, and until they have ended no server starts.
+ * that haven't ended by then are cancelled. What can't be is given up: the thread waits for it alone, and until it has ended no server
+ * starts.
  */
 void server_stop(struct queue *queue, unsigned seconds);
 /*

@@ -24,23 +24,32 @@ def pattern(sectors, seed=1):
     return b"".join((seed << 32 | at).to_bytes(8, "little") for at in range(sectors * disks.SECTOR // 8))
 
 
-class Program:
-    """A running kalyubos-vhost over a file of so many sectors. It must live until it is told to end."""
+class LeftOut(Exception):
+    """Why a test can't be tried on this machine."""
 
-    def __init__(self, command, *options, sectors=2048):
-        self.command, self.options, self.sectors = command, options, sectors
+
+class Program:
+    """A running kalyubos-vhost over a file of so many sectors, or over what `store` makes in a folder. It must live until it is told to end."""
+
+    def __init__(self, command, *options, sectors=2048, store=None):
+        self.command, self.options, self.sectors, self.store = command, options, sectors, store
 
     def __enter__(self):
         self.folder = tempfile.TemporaryDirectory(prefix="vhost-")
         self.socket, self.image = (os.path.join(self.folder.name, name) for name in ("socket", "image"))
         self.log = open(os.path.join(self.folder.name, "log"), "w+", encoding="utf-8", errors="replace")
-        with open(self.image, "wb") as image:
-            image.write(pattern(self.sectors))
+        self.disk = [f"--blk-file={self.image}"]
+        if self.store:
+            self.store = self.store(self.folder.name)
+            self.disk = self.store.words
+        else:
+            with open(self.image, "wb") as image:
+                image.write(pattern(self.sectors))
         self.start()
         return self
 
     def start(self):
-        words = [self.command, f"--socket-path={self.socket}", f"--blk-file={self.image}", *self.options]
+        words = [self.command, f"--socket-path={self.socket}", *self.disk, *self.options]
         self.process = subprocess.Popen(words, stdin=subprocess.DEVNULL, stdout=self.log, stderr=self.log)
 
     def kill(self):
@@ -68,11 +77,15 @@ class Program:
         finally:
             if self.process.poll() is None:
                 self.kill()
+            if self.store:
+                self.store.close()
             self.log.close()
             self.folder.cleanup()
 
     def bytes(self, sector, count=1):
-        """What its file has of the disk."""
+        """What its file or its store has of the disk."""
+        if self.store:
+            return self.store.read(sector * disks.SECTOR, count * disks.SECTOR)
         with open(self.image, "rb") as image:
             image.seek(sector * disks.SECTOR)
             return image.read(count * disks.SECTOR)

@@ -4,9 +4,10 @@ import os
 import random
 import socket
 import struct
+import time
 
 from front_end import HEAD, NEED_REPLY, PAGE, VERSION, WANTED, Ended, FrontEnd, Memory, Region, Request, is_readable
-from program import Broken, features_of, options_of, over
+from program import Broken, features_of, options_of, over, same
 from queues import KINDS
 
 BASE, SIZE = 0x80000000, 1 << 20
@@ -85,6 +86,38 @@ class Hostile:
     def likely_file(self):
         return self.files[0] if self.chance.random() < 0.6 else self.chance.choice(self.files)
 
+    def offer(self, queue):
+        """Offers a request as a driver does, in room that others may have."""
+        chance, room = self.chance, BASE + 0x10000 + 0x2000 * self.chance.randrange(32)
+        kind = chance.choice((0, 0, 1, 1, 4, 8, 13, 99))
+        queue.memory.write(room, struct.pack("=IIQ", kind, 0, chance.choice((0, 7, chance.randrange(2100)))))
+        data = (room + 0x1000, chance.choice((512, 512, 4096, 16, 20)), 2 * (kind in (0, 8)))
+        rows = [(room, 16, 0), data, (room + 32, 1, 2)]
+        if queue.FIRST:
+            for at in (2, 1, 0):
+                address, length, flags = rows[at]
+                queue.put(queue.next_offer + at, address, length, 5, flags | (at < 2))
+            queue.next_offer += 3
+        elif queue.next_offer - queue.used_idx() & 0xffff < 80:
+            first = chance.randrange(254)
+            for at, (address, length, flags) in enumerate(rows):
+                queue.put(first + at, address, length, flags | (at < 2), first + at + 1)
+            queue.publish(first, notify=False)
+
+    def spoil(self, queue):
+        """Writes something else into a ring that runs: a descriptor, an entry on offer, an idx, or a request's header."""
+        chance, what = self.chance, self.chance.randrange(4)
+        if what == 0:
+            near = queue.next_offer - chance.randrange(6) if queue.FIRST else chance.randrange(256)
+            at = queue.descriptors + 16 * (near % 256) + chance.choice((0, 4, 8, 10, 12, 14))
+            queue.memory.write(at, struct.pack("=H", self.likely(0, 1, 2, 3, 4, 512, 0x80, 0x8000) & 0xffff))
+        elif what == 1:
+            queue.memory.write(BASE + 0x10000 + 0x2000 * chance.randrange(32), struct.pack("=IIQ", self.number() & 0xff, 0, self.number()))
+        elif what == 2:
+            queue.memory.put_word(queue.driver + 4 + 2 * chance.randrange(257), chance.choice((chance.randrange(256), 256, 0xffff)))
+        else:
+            queue.memory.put_word(queue.driver + 2, queue.memory.word(queue.driver + 2) + chance.choice((0, 0, 0, 1, 64, 257)))
+
     def scribble(self):
         """Writes anything into the rings, and kicks."""
         for _ in range(8):
@@ -141,4 +174,26 @@ def test_any_messages(make, kind):
                 program.must_live()
         except Exception as error:
             raise Broken(f"after {sent} messages of seed {make.seed}: {error!r}; it said {program.said()[-300:]!r}") from None
+        program.must_serve(kind)
+
+
+@over(("split",), ("packed",))
+def test_any_rings(make, kind):
+    """As many changes of rings that run, by a driver that hardly waits. A queue that asks for a reset is started anew, from anywhere."""
+    with make(*options_of(kind)) as program:
+        hostile, faults = Hostile(f"{make.seed} {kind} rings"), 0
+        with program.machine(kind, memory=hostile.memory, most=4096) as front:
+            for number in range(make.count // 2):
+                (hostile.spoil if hostile.chance.random() < 0.1 else hostile.offer)(front.queue)
+                if number % 8 == 0:
+                    front.queue.notify()
+                if number % 24 == 0:
+                    time.sleep(0.001)
+                if number % 96 == 0 and is_readable(front.queue.error):
+                    faults += 1
+                    front.stop()
+                    front.queue = KINDS[kind](hostile.memory, hostile.chance.randrange(1 << 16 if kind == "split" else 512))
+                    front.start(front.queue)
+            front.stop()
+        same(faults > make.count // 10000, True, f"whether {faults} faults are enough")
         program.must_serve(kind)

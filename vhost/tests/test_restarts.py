@@ -7,7 +7,7 @@ from front_end import WANTED, FrontEnd, Memory, Region
 from program import features_of, options_of, over, pattern, same
 from queues import KINDS
 
-BASE, SIZE, DEPTH, KILLS = 0x80000000, 16 << 20, 32, 12
+BASE, SIZE, DEPTH = 0x80000000, 16 << 20, 32
 
 
 class Load:
@@ -65,7 +65,7 @@ def test_killed_under_load(make, kind, options):
     with make(*options_of(kind), *options, sectors=4096) as program:
         load = Load(program, kind, random.Random(f"{make.seed} {kind} {options}"))
         load.connect()
-        for _ in range(KILLS):
+        for _ in range(make.kills):
             load.run(load.chance.random() / 20)
             time.sleep(load.chance.random() / 1000)
             program.kill()
