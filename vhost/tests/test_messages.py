@@ -1,6 +1,7 @@
 """Messages: what is told of the device, which are refused, and front ends that go away at each."""
 import json
 import os
+import pathlib
 import socket
 import struct
 import subprocess
@@ -48,10 +49,28 @@ def test_features(make):
             same(front.number(Request.GET_MAX_MEM_SLOTS) >= 8, True, "whether eight regions may be added")
 
 
+# QEMU's docs/interop/vhost-user.json, for a back end of disks: what a VhostUserBackend has, and VHostUserBackendCapabilities.
+DESCRIBED = {"description": str, "type": str, "binary": str}
+CAN = {"type": "block", "features": ["read-only", "blk-file"]}
+
+
 def test_capabilities(make):
-    """What QEMU's conventions for back ends ask of --print-capabilities."""
-    said = json.loads(subprocess.run([make.args[0], "--print-capabilities"], capture_output=True, check=True, text=True).stdout)
-    same((said["type"], {"read-only", "blk-file"} - set(said["features"])), ("block", set()), "what it can do")
+    """What --print-capabilities says, whatever else is said, and that the program has these options."""
+    for more in ((), ("--blk-file=/nonexistent", "--fd=3")):
+        ran = subprocess.run([make.args[0], *more, "--print-capabilities"], capture_output=True, check=True, text=True)
+        same((json.loads(ran.stdout), ran.stderr), (CAN, ""), "what it can do")
+    shown = subprocess.run([make.args[0], "--help"], capture_output=True, text=True).stdout
+    same([word for word in ("--socket-path", "--fd", *(f"--{it}" for it in CAN["features"])) if word not in shown], [], "options that aren't there")
+
+
+def test_the_description_that_machines_look_for(make):
+    """The package's file in /usr/share/qemu/vhost-user: two digits first, by which they are sorted, and the program where the package has it."""
+    package = pathlib.Path(__file__).parents[1] / "package"
+    found = {path.name: json.loads(path.read_text(encoding="utf-8")) for path in package.glob("*.json")}
+    same(list(found), ["50-kalyubos-vhost.json"], "the descriptions")
+    for said in found.values():
+        same({name: type(value) for name, value in said.items()}, DESCRIBED, "what it has, beside tags")
+        same((said["type"], said["binary"]), (CAN["type"], "/usr/bin/kalyubos-vhost"), "the type and the program")
 
 
 def test_help(make):
