@@ -133,7 +133,7 @@ enum {
     KALYUBOS_OTHER_DEVICES = 31,     /* the snapshot has other further devices than the slot; nothing changed */
     KALYUBOS_BAD_DEVICE = 32,        /* a further device's kind isn't known, a network card's MTU is below 68, or a disk
                                         that the host serves has 2^55 sectors or more or a depth above 64; or a guest
-                                        that runs on has one */
+                                        that runs on has a further disk */
     KALYUBOS_NOT_HOSTED = 33,        /* the host serves the disk of a guest that runs on, which is no extent of an
                                         image */
     KALYUBOS_RUNS_ON = 34,           /* a guest that runs on is on no board; see kalyubos_guest_create */
@@ -718,8 +718,8 @@ uint32_t kalyubos_image_len(const struct kalyubos *board, size_t *len);
 uint32_t kalyubos_read_image(const struct kalyubos *board, size_t start, uint8_t *into, size_t into_len);
 
 /*
- * A guest whose CPUs run on while it is served: a block device, whose disk the host serves, and a console, over memory
- * that the host lends. It has a handle of its own, empty where it is zeroed, and shares nothing with a board or with another
+ * A guest whose CPUs run on while it is served: a block device, whose disk the host serves, a console, and further network
+ * cards, consoles and entropy devices, over memory that the host lends. It has a handle of its own, empty where it is zeroed, and shares nothing with a board or with another
  * guest. So one call at a time for a handle, and calls for different handles at the same time.
  *
  * While a call runs, and between calls, the guest's CPUs, its transfers and the host's threads read and write its memory as
@@ -742,7 +742,7 @@ struct kalyubos_words {
 /* A guest that runs on, as the host describes it: fill one in by kalyubos_guest_config_of. */
 struct kalyubos_guest_config {
     size_t size;                      /* sizeof(struct kalyubos_guest_config) */
-    const struct kalyubos_slot *slot; /* the guest: `hosted` is true, and it has no further device */
+    const struct kalyubos_slot *slot; /* the guest: `hosted` is true, and no further device is a disk */
     struct kalyubos_words *words;     /* a run for each region of the slot, in their order, of its `len` / 8 words */
     size_t words_len;
     uint32_t chains;                  /* the budget of a service of one queue, in chains */
@@ -759,8 +759,8 @@ static inline struct kalyubos_guest_config kalyubos_guest_config_of(const struct
 
 /*
  * Makes a guest and puts it into an empty handle. A refusal leaves the handle as it was and keeps no memory. The first of
- * these that holds is answered: HAS_BOARD; BAD_SIZE; NOT_HOSTED; BAD_DEVICE; BAD_LOAN, where `words` isn't as the regions
- * are; BAD_OUTLET; NO_REGIONS, then region by region BAD_MEMORY_SIZE, BAD_MEMORY_BASE and REGIONS_NOT_APART; BAD_DEPTH;
+ * these that holds is answered: HAS_BOARD; BAD_SIZE; NOT_HOSTED; BAD_DEVICE, where a further device's kind isn't known or is a
+ * disk's, or a network card's MTU is below 68; BAD_LOAN, where `words` isn't as the regions are; BAD_OUTLET; NO_REGIONS, then region by region BAD_MEMORY_SIZE, BAD_MEMORY_BASE and REGIONS_NOT_APART; BAD_DEPTH;
  * EXTENT_OUTSIDE, where `count` is 2^55 or more. NO_MEMORY may come in the place of those from BAD_LOAN on.
  *
  * Each run of words is taken: null and 0 are left in its place. After HAS_BOARD, BAD_SIZE, NOT_HOSTED and BAD_DEVICE all are
@@ -780,7 +780,7 @@ uint32_t kalyubos_guest_create(struct kalyubos_guest *guest, struct kalyubos_gue
 /* Ends the guest, frees its memory and leaves the handle empty. What was in flight is never completed. */
 uint32_t kalyubos_guest_destroy(struct kalyubos_guest *guest);
 
-/* A guest's read, as kalyubos_read. */
+/* A guest's read, as kalyubos_read: of any window, those of the further devices from KALYUBOS_DEVICE on too. */
 uint32_t kalyubos_guest_read(const struct kalyubos_guest *guest, uint8_t window, uint16_t offset, uint8_t width,
                              uint32_t *value);
 
@@ -791,22 +791,24 @@ uint32_t kalyubos_guest_read(const struct kalyubos_guest *guest, uint8_t window,
  *  - MORE: done, and a queue is due, of which the driver may never notify again. Call kalyubos_guest_go_on, until it
  *    answers something else; other calls may stand in between, and none is refused for it. A driver that refills its ring
  *    keeps it due for ever: a thread with other work makes one such call in each turn. Operations may have begun.
- *    Until then a write, an input and what the host says of the disk are answered MORE where they would be DONE or IO.
+ *    Until then a write, an input, what the host says of the disk and a call for a further device are answered MORE where they
+ *    would be DONE or IO.
  *  - NO_ROOM: what the console puts out next doesn't fit behind what waits. Take the output and make the same write again,
  *    as long as it is answered NO_ROOM and there was output to take. With `pending.output` 0 it is longer than the whole
  *    outlet, and is never put out: its queue is due until the driver has reset the console. All else is served.
  *  - BUSY: the write, to Status (0x070) or QueueReady (0x044) of the block window, waits for all that is in flight of the
  *    disk. Make it again once all is completed or dropped.
  *  - BAD_WINDOW.
+ * Of a further device's window kalyubos_guest_device_pending tells the line, and the answer is DONE, MORE or BAD_WINDOW.
  */
 KALYUBOS_LOOK_AT_IT
 uint32_t kalyubos_guest_write(struct kalyubos_guest *guest, uint8_t window, uint16_t offset, uint8_t width,
                               uint32_t value, struct kalyubos_pending *pending);
 
 /*
- * Serves each queue that is due, within the budget, and answers as kalyubos_guest_write does: MORE where one is due again.
- * NO_ROOM: take the output and make this call again, as long as there was output to take; with `pending.output` 0 it would
- * never end. Operations may have begun after IO, MORE and NO_ROOM.
+ * Serves each queue that is due, those of the further devices last, within the budget, and answers as kalyubos_guest_write does:
+ * MORE where one is due again. NO_ROOM: take the output and make this call again, as long as there was output to take; with
+ * `pending.output` 0 it would never end. Operations may have begun after IO, MORE and NO_ROOM.
  */
 KALYUBOS_LOOK_AT_IT
 uint32_t kalyubos_guest_go_on(struct kalyubos_guest *guest, struct kalyubos_pending *pending);
@@ -822,6 +824,27 @@ uint32_t kalyubos_guest_resize(struct kalyubos_guest *guest, uint16_t cols, uint
 
 /* Moves out the first bytes of what the console put out, as kalyubos_take_output. */
 uint32_t kalyubos_guest_take_output(struct kalyubos_guest *guest, uint8_t *into, size_t into_len, size_t *taken);
+
+/*
+ * The calls for further devices, as those of a board: kalyubos_device_pending, kalyubos_supply, kalyubos_receive,
+ * kalyubos_take_frame, kalyubos_set_link and kalyubos_resize_device. But MORE says, as of kalyubos_guest_write, that a queue of the
+ * guest is due: the call is done, and none is refused for it. In `pending` `starved` is false and `tags` 0: whether a chain waits for
+ * bytes or a frame isn't asked of a ring that its guest writes. The host supplies until fewer are taken, and again after the guest's
+ * next write to the window.
+ */
+uint32_t kalyubos_guest_device_pending(const struct kalyubos_guest *guest, uint8_t window,
+                                       struct kalyubos_device_pending *pending);
+KALYUBOS_LOOK_AT_IT
+uint32_t kalyubos_guest_supply(struct kalyubos_guest *guest, uint8_t window, const uint8_t *bytes, size_t bytes_len,
+                               size_t *taken);
+KALYUBOS_LOOK_AT_IT
+uint32_t kalyubos_guest_receive(struct kalyubos_guest *guest, uint8_t window, const uint8_t *frame, size_t frame_len,
+                                bool *taken);
+KALYUBOS_LOOK_AT_IT
+uint32_t kalyubos_guest_take_frame(struct kalyubos_guest *guest, uint8_t window, uint8_t *into, size_t into_len,
+                                   size_t *len);
+uint32_t kalyubos_guest_set_link(struct kalyubos_guest *guest, uint8_t window, bool up);
+uint32_t kalyubos_guest_resize_device(struct kalyubos_guest *guest, uint8_t window, uint16_t cols, uint16_t rows);
 
 /*
  * What the disk is asked for, and what the host did, as kalyubos_in_flight, kalyubos_operation, kalyubos_completed,
@@ -858,7 +881,7 @@ uint32_t kalyubos_guest_set_place(struct kalyubos_guest *guest, uint8_t window, 
  * Gives the guest these regions over these words, in the place of its memory: memory was plugged in or out, or lies elsewhere.
  * Its devices go on where they stand, and the words before are the host's again. As the new ones share none with those before,
  * map memory that stays a second time. The first of these that holds is answered; after each but DONE the guest is as it was.
- *  - BUSY: an operation of the disk is in flight, or a queue is due. Hold the disk (kalyubos_guest_hold), let what is in flight
+ *  - BUSY: an operation of the disk is in flight, or a queue is due, of a further device too. Hold the disk (kalyubos_guest_hold), let what is in flight
  *    be completed, call kalyubos_guest_go_on while it answers MORE, and make the call again.
  *  - BAD_LOAN: `words` isn't as the regions are, or there are more than KALYUBOS_REGIONS.
  *  - NO_REGIONS, then region by region BAD_MEMORY_SIZE, BAD_MEMORY_BASE and REGIONS_NOT_APART.
@@ -874,7 +897,7 @@ uint32_t kalyubos_guest_set_memory(struct kalyubos_guest *guest, const struct ka
 uint32_t kalyubos_guest_interrupts(const struct kalyubos_guest *guest, uint8_t *block, uint8_t *console);
 
 /*
- * The last fault of a window, as kalyubos_last_fault. Of a split queue `head` is KALYUBOS_NO_HEAD: it isn't read once more,
+ * The last fault of a window, as kalyubos_last_fault, of a further device's too. Of a split queue `head` is KALYUBOS_NO_HEAD: it isn't read once more,
  * since it may be another one by then.
  */
 uint32_t kalyubos_guest_last_fault(const struct kalyubos_guest *guest, uint8_t window, struct kalyubos_fault *fault);

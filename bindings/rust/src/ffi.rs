@@ -455,6 +455,39 @@ unsafe extern "C" {
         into_len: usize,
         taken: *mut usize,
     ) -> u32;
+    pub fn kalyubos_guest_device_pending(
+        guest: *const GuestHandle,
+        window: u8,
+        pending: *mut DevicePending,
+    ) -> u32;
+    pub fn kalyubos_guest_supply(
+        guest: *mut GuestHandle,
+        window: u8,
+        bytes: *const u8,
+        bytes_len: usize,
+        taken: *mut usize,
+    ) -> u32;
+    pub fn kalyubos_guest_receive(
+        guest: *mut GuestHandle,
+        window: u8,
+        frame: *const u8,
+        frame_len: usize,
+        taken: *mut bool,
+    ) -> u32;
+    pub fn kalyubos_guest_take_frame(
+        guest: *mut GuestHandle,
+        window: u8,
+        into: *mut u8,
+        into_len: usize,
+        len: *mut usize,
+    ) -> u32;
+    pub fn kalyubos_guest_set_link(guest: *mut GuestHandle, window: u8, up: bool) -> u32;
+    pub fn kalyubos_guest_resize_device(
+        guest: *mut GuestHandle,
+        window: u8,
+        cols: u16,
+        rows: u16,
+    ) -> u32;
     pub fn kalyubos_guest_in_flight(guest: *const GuestHandle, tags: *mut u64) -> u32;
     pub fn kalyubos_guest_operation(
         guest: *const GuestHandle,

@@ -7,7 +7,7 @@ use Rattle.session.specs.declared.told.DeviceWaits.{DeviceWaits}
 use Rattle.session.specs.Devices.{device_waits_at, sent_at}
 use Rattle.session.specs.Pacing.{paused_at}
 use Rattle.session.specs.Session.{IsIdle, SessionState}
-use Rattle.board_ffi.specs.declared.devices.DevicePending.{DevicePending}
+use Rattle.c_values.specs.declared.pending.DevicePending.{DevicePending}
 use Rattle.board_ffi.specs.Codes.{code_at}
 use Rattle.board_ffi.specs.Events.{PausesBehind, Takes}
 

@@ -9,39 +9,8 @@ use crate::codes::{BAD_WINDOW, DONE, handed, no_window, of_done, of_progress, of
 use crate::frame::take_frame;
 use crate::handle::{Handle, session_of};
 use crate::window::device_numbered;
+use c_values::DevicePending;
 use session::DeviceWaits;
-
-/// What waits for a further device's driver and for its host.
-#[derive(Clone, Copy, Debug, PartialEq, Eq)]
-#[repr(C)]
-pub struct DevicePending {
-    /// InterruptStatus of its window (4.2.2).
-    pub interrupt: u32,
-    /// Whether a chain is on offer that waits for what the host supplies or sends.
-    pub starved: bool,
-    /// Zeros.
-    pub padding: [u8; 3],
-    /// How many bytes the host takes now of what the driver sent: a card's oldest frame, or all output of a console. It is 0
-    /// where nothing waits.
-    pub frame: u64,
-    /// What is in flight of a disk: bit n is set where tag n is. It is 0 of another device.
-    pub tags: u64,
-}
-
-impl DevicePending {
-    // What waits, as C has it.
-    fn of(waits: DeviceWaits) -> DevicePending
-        ensures { result ≡ pending_of_device waits }
-    {
-        DevicePending {
-            interrupt: u32::from(waits.irq),
-            starved: waits.starved,
-            padding: [0; 3],
-            frame: waits.sent.unwrap_or(0) as u64,
-            tags: waits.tags,
-        }
-    }
-}
 
 /// Supplies an entropy device with bytes, or types to a console, and tells how many bytes it took, the first ones.
 #[unsafe(no_mangle)]
@@ -171,6 +140,19 @@ pub extern "C" fn kalyubos_device_pending(
     let Some(waits) = session.device_waits(slot, device) else {
         return no_window(slot, session.slots());
     };
-    *pending = DevicePending::of(waits);
+    *pending = pending_of_device(waits);
     DONE
+}
+
+// What waits, as C has it.
+fn pending_of_device(waits: DeviceWaits) -> DevicePending
+    ensures { result ≡ pending_of_device waits }
+{
+    DevicePending {
+        interrupt: u32::from(waits.irq),
+        starved: waits.starved,
+        padding: [0; 3],
+        frame: waits.sent.unwrap_or(0) as u64,
+        tags: waits.tags,
+    }
 }

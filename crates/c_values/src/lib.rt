@@ -26,6 +26,6 @@ pub use limits::budget;
 pub use loans::{have_bits, taken};
 pub use operation::{Operation, Run, tell_runs, verdict};
 pub use parts::Parts;
-pub use pending::Pending;
+pub use pending::{DevicePending, Pending};
 pub use region::regions;
 pub use slot::{Device, MOST_DEVICES, NO_DEVICE, SLOT_SIZE, Slot, depth};

@@ -27,3 +27,20 @@ impl Pending {
         }
     }
 }
+
+/// What waits for a further device's driver and for its host.
+#[derive(Clone, Copy, Debug, PartialEq, Eq)]
+#[repr(C)]
+pub struct DevicePending {
+    /// InterruptStatus of its window (4.2.2).
+    pub interrupt: u32,
+    /// Whether a chain is on offer that waits for what the host supplies or sends.
+    pub starved: bool,
+    /// Zeros.
+    pub padding: [u8; 3],
+    /// How many bytes the host takes now of what the driver sent: a card's oldest frame, or all output of a console. It is 0
+    /// where nothing waits.
+    pub frame: u64,
+    /// What is in flight of a disk: bit n is set where tag n is. It is 0 of another device.
+    pub tags: u64,
+}

@@ -1,5 +1,5 @@
 -- What a call does to the guest behind its handle, whatever stood in that guest's memory (`stood`) and whatever it writes meanwhile.
-use Rattle.std.specs.Prelude.{◌≡◌, ℕ, ◌++◌, ◌==◌, ◌↔◌, if◌then◌else◌, false, List, Option, Some, None, MatchOption, Result, IfOk, IsSomeAnd, IsTrue, OnErr, drop, length, min, take}
+use Rattle.std.specs.Prelude.{◌≡◌, ℕ, ◌-◌, nat_lt, ◌++◌, ◌==◌, ◌↔◌, if◌then◌else◌, false, List, Option, Some, None, MatchOption, Result, IfOk, IsSomeAnd, IsTrue, OnErr, drop, length, min, take}
 use Rattle.block_device.specs.declared.operation.HostEvent.{HostEvent}
 use Rattle.console_device.specs.Input.{fitting}
 use Rattle.racing_hosted_disk.specs.Told.{has_effect}
@@ -29,6 +29,20 @@ window_of number = if number == 0 then Some Block else (if number == 1 then Some
 abbrev pub AtWindow : ℕ → ℕ → (GuestWindow → RacingSession → RacingSession → Type 0) → RacingSession → RacingSession → Type 0
 AtWindow number code step old new =
     MatchOption (window_of number) ((code ≡ 6) × (new ≡ old)) (λ window. step window old new)
+
+-- and those from 2 on are the further devices', in their order
+abbrev pub device_at : ℕ → Option ℕ
+device_at number = if nat_lt number 2 then None else Some (number - 2)
+
+-- a call for one of these: of another number it answers 6, and changes nothing
+abbrev pub AtDevice : ℕ → ℕ → (ℕ → RacingSession → RacingSession → Type 0) → RacingSession → RacingSession → Type 0
+AtDevice number code step old new = MatchOption (device_at number) ((code ≡ 6) × (new ≡ old)) (λ n. step n old new)
+
+-- a call for any window: the disk's or the console's, or else a further device's
+abbrev pub AtAnyWindow : ℕ → (GuestWindow → RacingSession → RacingSession → Type 0)
+    → (ℕ → RacingSession → RacingSession → Type 0) → RacingSession → RacingSession → Type 0
+AtAnyWindow number step device old new =
+    MatchOption (window_of number) (device (number - 2) old new) (λ window. step window old new)
 
 -- ---- what waits
 

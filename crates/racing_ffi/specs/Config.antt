@@ -1,6 +1,6 @@
 -- What a config describes, and what is judged of it before its guest is.
-use Rattle.std.specs.Prelude.{ℕ, ◌==◌, nat_lt, not, if◌then◌else◌, List, map}
-use Rattle.std.specs.List.{prefix_len}
+use Rattle.std.specs.Prelude.{ℕ, ◌==◌, ◌&&◌, ◌||◌, nat_le, not, if◌then◌else◌, Bool, false, List, [], ◌∷◌, Option, Some, None, is_none, map}
+use Rattle.std.specs.Option.{option_map_or}
 use Rattle.guest_bytes.specs.declared.word_loan.WordLoan.{WordLoan}
 use Rattle.c_values.specs.declared.slot.Device.{Device}
 use Rattle.c_values.specs.declared.slot.Slot.{Slot}
@@ -8,7 +8,11 @@ use Rattle.c_values.specs.Limits.{budget_by}
 use Rattle.c_values.specs.Slot.{depth_of, regions_of, slot_size}
 use Rattle.racing_hosted_disk.specs.declared.look.LookLimits.{LookLimits}
 use Rattle.racing_guest.specs.declared.spec.GuestSpec.{GuestSpec}
+use Rattle.device_list.specs.declared.spec.DeviceSpec.{DeviceSpec}
+use Rattle.device_list.specs.Device.{fresh_device}
 use Rattle.racing_session.specs.declared.spec.RacingSpec.{RacingSpec}
+use Rattle.racing_session.specs.Devices.{with_devices}
+use Rattle.racing_session.specs.Session.{RacingSession, new_session}
 use Rattle.racing_ffi.specs.declared.config.GuestConfig.{GuestConfig}
 
 -- the guest's devices
@@ -50,17 +54,39 @@ lent_words loans = map (λ loan. loan.items) loans
 abbrev pub config_size : ℕ
 config_size = 48
 
--- how many further devices there are: those before the first of no kind
-abbrev pub device_count : List Device → ℕ
-device_count = prefix_len (λ device. nat_lt 0 device.kind)
+-- ---- further devices
 
--- ---- What is judged before the guest is: 0 where it is good. No guest that runs on has a disk of an image, or a further device.
+-- One by its type (VIRTIO 1.2, 5): 1 is a network card, 3 a console, and 4 an entropy device. A guest that runs on has none of
+-- another type, and no card whose MTU is below 68.
+abbrev pub device_of : Device → Option DeviceSpec
+device_of device =
+    if device.kind == 4 then Some DeviceSpec.Entropy
+    else if device.kind == 3 then Some (DeviceSpec.Console device.cols device.rows)
+    else if device.kind == 1 && nat_le 68 device.mtu then Some (DeviceSpec.Network device.mac device.mtu)
+    else None
+
+-- those that are described: they stand before the first of no kind
+abbrev pub devices_of : List Device → List DeviceSpec
+devices_of [] = []
+devices_of (device ∷ others) = option_map_or (λ spec. spec ∷ devices_of others) (device_of device) []
+
+-- whether one before the first of no kind is none that such a guest may have
+abbrev pub have_bad_device : List Device → Bool
+have_bad_device [] = false
+have_bad_device (device ∷ others) =
+    if device.kind == 0 then false else (is_none (device_of device) || have_bad_device others)
+
+-- the session that is described: its guest, with its further devices
+abbrev pub made_session : GuestConfig → RacingSession
+made_session config = with_devices (map fresh_device (devices_of config.slot.now.devices)) (new_session (spec_of config))
+
+-- ---- What is judged before the guest is: 0 where it is good. No guest that runs on has a disk of an image, or a further disk.
 
 abbrev pub judged_slot : Slot → ℕ
 judged_slot slot =
     if not (slot.size == slot_size) then 17
     else if not slot.hosted then 33
-    else if nat_lt 0 (device_count slot.devices) then 32
+    else if have_bad_device slot.devices then 32
     else 0
 
 abbrev pub judged : GuestConfig → ℕ

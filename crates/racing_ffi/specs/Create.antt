@@ -4,15 +4,14 @@ use Rattle.guest_bytes.specs.declared.word_loan.WordLoan.{WordLoan}
 use Rattle.c_values.specs.Loans.{TakesFirst}
 use Rattle.racing_session.specs.declared.fault.RacingFault.{RacingFault}
 use Rattle.racing_session.specs.Judging.{IsAccepted, IsRefusedFor}
-use Rattle.racing_session.specs.Session.{new_session}
 use Rattle.racing_ffi.specs.declared.config.GuestConfig.{GuestConfig}
 use Rattle.racing_ffi.specs.Codes.{fault_code}
-use Rattle.racing_ffi.specs.Config.{judged, lent_words, spec_of}
+use Rattle.racing_ffi.specs.Config.{judged, lent_words, made_session, spec_of}
 use Rattle.racing_ffi.specs.Handle.{Held}
 
 -- there is a new guest, the one that is described, which can be had
 pub record IsMade (config : GuestConfig) (after : Held) : Type 0 where
-  pub made : after ≡ Some (new_session (spec_of config))
+  pub made : after ≡ Some (made_session config)
   pub judged_good : judged config ≡ 0
   pub accepted : IsAccepted (spec_of config) (lent_words config.words.now)
 

@@ -1,6 +1,7 @@
 pub mod Handle
 pub mod Codes
 pub mod Disk
+pub mod Devices
 pub mod Faults
 pub mod Calls
 pub mod Config

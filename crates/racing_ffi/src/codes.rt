@@ -13,6 +13,9 @@ pub(crate) use c_values::{
 };
 use racing_session::{MemoryRefusal, Progress, RacingFault, Refusal};
 
+/// The number where what a driver sent doesn't fit into the buffer.
+pub(crate) const SHORT_BUFFER: u32 = 26;
+
 /// The number where the host doesn't serve the disk.
 pub(crate) const NOT_HOSTED: u32 = 33;
 

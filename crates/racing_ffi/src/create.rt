@@ -3,12 +3,12 @@
 ghost use Rattle.std.specs.Prelude.{◌≡◌, ◌≢◌, [], All, Some, None, MatchOption, IfErr, IfOk, IfSome, OnOk, false, true};
 ghost use Rattle.racing_session.specs.declared.fault.RacingFault.{RacingFault};
 ghost use Rattle.racing_session.specs.Judging.{IsAccepted};
-ghost use Rattle.racing_session.specs.Session.{new_session};
-ghost use Rattle.racing_ffi.specs.Config.{lent_words, spec_of};
+ghost use Rattle.racing_ffi.specs.Config.{lent_words, made_session, spec_of};
 ghost use Rattle.racing_ffi.specs.Create.{IsMade, IsRefusal, Refuses, TakesFront, TakesWords};
 
 use crate::codes::{DONE, HAS_BOARD, NO_BOARD, of_fault};
 use crate::config::GuestConfig;
+use crate::device::add_each;
 use crate::handle::GuestHandle;
 use c_values::taken;
 use racing_session::{RacingFault, RacingSession};
@@ -70,7 +70,7 @@ pub extern "C" fn kalyubos_guest_destroy(alloc: Global, guest: &mut GuestHandle)
 
 // The session that a config describes, in a box.
 fn boxed(alloc: Global, config: &mut GuestConfig<'_>) -> Result<Box<RacingSession>, RacingFault>
-    ensures made { IfOk result (λ session. session.value ≡ new_session (spec_of config.old)) }
+    ensures made { IfOk result (λ session. session.value ≡ made_session config.old) }
     ensures accepted { OnOk result (IsAccepted (spec_of config.old) (lent_words config.old.words.now)) }
     ensures fault { IfErr result (IsRefusal config.old) }
     ensures lasts { IfErr result (λ why. why ≢ RacingFault.SpentLimits) }
@@ -81,7 +81,8 @@ fn boxed(alloc: Global, config: &mut GuestConfig<'_>) -> Result<Box<RacingSessio
     let Ok(words) = taken(alloc, config.words) else {
         return Err(RacingFault::NoMemory);
     };
-    let session = RacingSession::new(alloc, &config.spec(), words)?;
+    let mut session = RacingSession::new(alloc, &config.spec(), words)?;
+    add_each(alloc, &mut session, &config.slot.devices)?;
     match Box::new(alloc, session) {
         Ok(session) => Ok(session),
         Err(_) => Err(RacingFault::NoMemory),

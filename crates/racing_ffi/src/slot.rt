@@ -1,10 +1,11 @@
 //! A guest, as C describes it.
 
 ghost use Rattle.std.specs.Prelude.{◌≡◌};
-ghost use Rattle.racing_ffi.specs.Config.{device_count, judged_slot, spec_by};
+ghost use Rattle.racing_ffi.specs.Config.{judged_slot, spec_by};
 
 use crate::codes::{BAD_DEVICE, BAD_SIZE, DONE, NOT_HOSTED};
-use c_values::{Device, NO_DEVICE, SLOT_SIZE, Slot, depth, regions};
+use crate::device::have_bad_device;
+use c_values::{SLOT_SIZE, Slot, depth, regions};
 use racing_session::{GuestSpec, LookLimits, RacingSpec};
 
 /// The number that says why no guest which runs on has this slot, if none may have it.
@@ -17,7 +18,7 @@ pub(crate) fn judged(slot: &Slot) -> u32
     if !slot.hosted {
         return NOT_HOSTED;
     }
-    if device_count(&slot.devices) > 0 {
+    if have_bad_device(&slot.devices) {
         return BAD_DEVICE;
     }
     DONE
@@ -40,14 +41,4 @@ pub(crate) fn spec(slot: &Slot, limits: LookLimits) -> RacingSpec
         outlet: slot.outlet,
         limits,
     }
-}
-
-// How many further devices there are: those before the first of no kind.
-fn device_count(devices: &[Device]) -> usize
-    ensures { result ≡ device_count devices.now }
-{
-    devices
-        .iter()
-        .take_while(|device| device.kind > NO_DEVICE)
-        .count()
 }
