@@ -668,8 +668,8 @@ static void refuse(void)
     slot.hosted = false;
     try_config("a disk of an image", slot, 2);
     slot = described();
-    slot.devices[0].kind = KALYUBOS_ENTROPY;
-    try_config("a further device", slot, 2);
+    slot.devices[0].kind = KALYUBOS_DISK;
+    try_config("a further disk", slot, 2);
     slot = described();
     slot.size--;
     try_config("another size", slot, 2);

@@ -16,14 +16,16 @@
 
 enum { LEN = 0x2000, SIZE = 4, LONG_SIZE = 32, SECTOR = 512, SECTORS = 8, IDENTITY_LEN = 20, OUTLET = 64, GUARD = 8 };
 enum { NEXT = 1, WRITE = 2, VERSION_1 = 1, RING_PACKED = 4, IN = 0, OUT = 1, GET_ID = 8, WRITE_ZEROES = 13, RECEIVE = 0, TRANSMIT = 1 };
-enum { NOTIFY = 0x050, INTERRUPT_STATUS = 0x060, STATUS = 0x070 };
+enum { DEVICE_ID = 0x008, NOTIFY = 0x050, INTERRUPT_STATUS = 0x060, STATUS = 0x070 };
+/* The further devices' windows, and one that isn't there. A frame has a header of 12 bytes before it (5.1.6). */
+enum { ENTROPY = KALYUBOS_DEVICE, CARD, SECOND_CONSOLE, NO_WINDOW, HEADER_LEN = 12, FRAME_LEN = 14, MTU = 1500, UNTOLD = 0x77 };
 
 /* Two regions, and in the lower one a queue's table, its available and its used ring, headers, texts, statuses and data. */
 static const uint64_t LOW = 0x80000000, HIGH = 0x90000000, DRIVER = 0x80000100, DEVICE = 0x80000200;
 static const uint64_t HEADER = 0x80000300, REQUEST_STATUS = 0x80000380, DATA = 0x80001000;
 static const char IDENTITY[] = "an identity of 20 b.";
 
-static uint64_t low[LEN / 8], plain[LEN / 8];
+static uint64_t low[LEN / 8], plain[LEN / 8], other[LEN / 8];
 /* HIGH as its CPUs have it, and as the library has it. */
 static uint64_t *high = plain, *lent = plain;
 static struct kalyubos_guest guest;
@@ -62,6 +64,8 @@ static void begin(uint32_t chains)
     struct kalyubos_slot slot = {
         .size = sizeof slot, .regions = { { LOW, LEN }, { HIGH, LEN } }, .count = SECTORS, .cols = 80, .rows = 25,
         .outlet = OUTLET, .hosted = true, .depth = 3,
+        .devices = { { .kind = KALYUBOS_ENTROPY }, { .kind = KALYUBOS_NETWORK, .mtu = MTU, .mac = { 2, 0, 0, 0, 0, 1 } },
+                     { .kind = KALYUBOS_CONSOLE_DEVICE, .cols = 80, .rows = 25 } },
     };
     struct kalyubos_words words[] = { { low, LEN / 8 }, { lent, LEN / 8 } };
     struct kalyubos_guest_config config = kalyubos_guest_config_of(&slot, words, 2);
@@ -400,6 +404,159 @@ static void two_reads_are_completed_the_other_way_round(void)
     need(get(REQUEST_STATUS, 1) == 0 && get(REQUEST_STATUS + 8, 1) == 0, "both statuses", 2);
 }
 
+/* ---- further devices */
+
+static struct kalyubos_device_pending waits(uint8_t window)
+{
+    struct kalyubos_device_pending found;
+    need(kalyubos_guest_device_pending(&guest, window, &found) == KALYUBOS_DONE, "what waits for a device", window);
+    need(!found.starved && found.tags == 0 && found.padding[0] == 0, "what isn't told of a device", window);
+    return found;
+}
+
+/* What each is, and what a call answers of a window that isn't there, or of a device that takes no such thing. */
+static void what_devices_take(void)
+{
+    static const uint32_t IDS[] = { 4, 1, 3 };
+    static const uint8_t BYTES[MTU + FRAME_LEN + 1];
+    struct kalyubos_device_pending found;
+    struct kalyubos_fault fault;
+    uint8_t into[1];
+    size_t count = UNTOLD;
+    uint32_t value = UNTOLD;
+    bool taken = true;
+    begin(0);
+    for (uint8_t i = 0; i < 3; i++)
+        need(reg(KALYUBOS_DEVICE + i, DEVICE_ID) == IDS[i] && waits(KALYUBOS_DEVICE + i).interrupt == 0, "a device", i);
+    for (uint8_t window = 0; window <= NO_WINDOW; window++) {
+        bool is_card = window == CARD, is_console = window == SECOND_CONSOLE;
+        if (window != ENTROPY && !is_console)
+            need(kalyubos_guest_supply(&guest, window, BYTES, 1, &count) == KALYUBOS_BAD_WINDOW && count == UNTOLD, "a supply", window);
+        if (!is_card && !is_console)
+            need(kalyubos_guest_take_frame(&guest, window, into, 1, &count) == KALYUBOS_BAD_WINDOW && count == UNTOLD, "a taking", window);
+        if (!is_card)
+            need(kalyubos_guest_receive(&guest, window, BYTES, FRAME_LEN, &taken) == KALYUBOS_BAD_WINDOW && taken, "a frame", window);
+        if (!is_card)
+            need(kalyubos_guest_set_link(&guest, window, false) == KALYUBOS_BAD_WINDOW, "a link", window);
+        if (!is_console)
+            need(kalyubos_guest_resize_device(&guest, window, 132, 43) == KALYUBOS_BAD_WINDOW, "a size", window);
+    }
+    need(kalyubos_guest_receive(&guest, CARD, BYTES, 0, &taken) == KALYUBOS_BAD_WINDOW && taken, "a frame of no bytes", 0);
+    need(kalyubos_guest_receive(&guest, CARD, BYTES, sizeof BYTES, &taken) == KALYUBOS_BAD_WINDOW && taken, "a frame that is too long", sizeof BYTES);
+    need(kalyubos_guest_read(&guest, NO_WINDOW, DEVICE_ID, 4, &value) == KALYUBOS_BAD_WINDOW && value == UNTOLD, "no window", NO_WINDOW);
+    need(set(NO_WINDOW, NOTIFY, 0) == KALYUBOS_BAD_WINDOW, "a write of no window", NO_WINDOW);
+    need(kalyubos_guest_device_pending(&guest, NO_WINDOW, &found) == KALYUBOS_BAD_WINDOW, "what waits for none", NO_WINDOW);
+    need(kalyubos_guest_last_fault(&guest, NO_WINDOW, &fault) == KALYUBOS_BAD_WINDOW, "the fault of none", NO_WINDOW);
+}
+
+/* A chain of eight bytes waits for random ones: three that are supplied fill it. The pool keeps 4096 of more than it has room for. */
+static void random_bytes(void)
+{
+    enum { POOL = 4096 };
+    static const uint8_t BYTES[POOL + 1] = { 0x11, 0x22, 0x33 };
+    size_t count = 0;
+    begin(0);
+    memset(high, 0xff, sizeof high);
+    bring_up(ENTROPY, VERSION_1, 0, USUAL);
+    describe(0, HIGH + GUARD, 8, WRITE);
+    offer(0, 0);
+    need(set(ENTROPY, NOTIFY, 0) == KALYUBOS_DONE && get(DEVICE + 2, 2) == 0 && waits(ENTROPY).interrupt == 0, "no bytes", 0);
+    need(kalyubos_guest_supply(&guest, ENTROPY, BYTES, 3, &count) == KALYUBOS_DONE && count == 3, "three bytes", count);
+    need(stands(HIGH + GUARD, "\x11\x22\x33", 3) && get(DEVICE, 8) == 0x10000 && get(DEVICE + 8, 4) == 3, "the bytes of a chain", get(DEVICE + 8, 4));
+    need(waits(ENTROPY).interrupt == 1, "the interrupt of a chain", 1);
+    need(kalyubos_guest_supply(&guest, ENTROPY, BYTES, sizeof BYTES, &count) == KALYUBOS_DONE && count == POOL, "a full pool", count);
+}
+
+/* A frame of the host behind its header, whose num_buffers is 1 (5.1.6.4.1). */
+static void a_frame_is_received(void)
+{
+    static const uint8_t FRAME[FRAME_LEN] = { 2, 0, 0, 0, 0, 1, 2, 0, 0, 0, 0, 2, 0x88, 0xb5 };
+    bool taken = false;
+    begin(0);
+    memset(high, 0xff, sizeof high);
+    bring_up(CARD, VERSION_1, RECEIVE, USUAL);
+    describe(0, HIGH + GUARD, 64, WRITE);
+    offer(0, 0);
+    need(kalyubos_guest_receive(&guest, CARD, FRAME, FRAME_LEN, &taken) == KALYUBOS_DONE && taken, "a frame", taken);
+    need(get(HIGH + GUARD, 8) == 0 && get(HIGH + GUARD + 8, 4) == 0x10000, "the header of a frame", get(HIGH + GUARD + 8, 4));
+    need(memcmp(place(HIGH + GUARD + HEADER_LEN), FRAME, FRAME_LEN) == 0 && get(HIGH + GUARD + HEADER_LEN + FRAME_LEN, 1) == 0xff, "a frame's bytes", 0);
+    need(get(DEVICE, 8) == 0x10000 && get(DEVICE + 8, 4) == HEADER_LEN + FRAME_LEN, "the used entry of a frame", get(DEVICE + 8, 4));
+    need(kalyubos_guest_set_link(&guest, CARD, false) == KALYUBOS_DONE && waits(CARD).interrupt == 3, "a link that is down", 3);
+}
+
+/* Two frames of the driver, and a budget of one chain: the second is due. The first is taken where it finds room. */
+static void two_frames_are_sent(void)
+{
+    uint8_t into[FRAME_LEN];
+    size_t len = 0;
+    begin(1);
+    bring_up(CARD, VERSION_1, TRANSMIT, USUAL);
+    for (uint16_t i = 0; i < 2; i++) {
+        put(HEADER + 64 * i + HEADER_LEN, 0x0100000002 + i, 8);
+        describe(i, HEADER + 64 * i, HEADER_LEN + FRAME_LEN, 0);
+        offer(i, i);
+    }
+    need(set(CARD, NOTIFY, TRANSMIT) == KALYUBOS_MORE && get(DEVICE + 2, 2) == 1, "one frame of two", get(DEVICE + 2, 2));
+    need(waits(CARD).interrupt == 1 && waits(CARD).frame == FRAME_LEN, "what waits of it", waits(CARD).frame);
+    need(kalyubos_guest_take_frame(&guest, CARD, into, FRAME_LEN - 1, &len) == KALYUBOS_SHORT_BUFFER && len == FRAME_LEN, "too little room", len);
+    need(kalyubos_guest_go_on(&guest, &pending) == KALYUBOS_DONE && get(DEVICE + 2, 2) == 2, "both frames", get(DEVICE + 2, 2));
+    for (uint8_t i = 0; i < 2; i++) {
+        need(kalyubos_guest_take_frame(&guest, CARD, into, FRAME_LEN, &len) == KALYUBOS_DONE && len == FRAME_LEN, "a frame is taken", i);
+        need(into[0] == 2 + i && into[4] == 1, "its bytes", into[0]);
+    }
+    need(kalyubos_guest_take_frame(&guest, CARD, into, FRAME_LEN, &len) == KALYUBOS_DONE && len == 0, "no frame", len);
+}
+
+/* A second console: what is typed, what it puts out, its size. */
+static void a_second_console(void)
+{
+    static const char TYPED[] = "ab", TEXT[] = "123456789";
+    uint8_t found[OUTLET];
+    size_t count = 0;
+    begin(0);
+    memset(high, 0xff, sizeof high);
+    bring_up(SECOND_CONSOLE, VERSION_1, RECEIVE, USUAL);
+    describe(0, HIGH + GUARD, 2, WRITE);
+    offer(0, 0);
+    need(kalyubos_guest_supply(&guest, SECOND_CONSOLE, (const uint8_t *)TYPED, 2, &count) == KALYUBOS_DONE && count == 2, "two bytes", count);
+    need(stands(HIGH + GUARD, TYPED, 2) && get(DEVICE + 8, 4) == 2, "what was typed", get(DEVICE + 8, 4));
+    begin(0);
+    bring_up(SECOND_CONSOLE, VERSION_1, TRANSMIT, USUAL);
+    memcpy(place(HIGH), TEXT, 9);
+    describe(0, HIGH, 9, 0);
+    offer(0, 0);
+    need(set(SECOND_CONSOLE, NOTIFY, TRANSMIT) == KALYUBOS_DONE && waits(SECOND_CONSOLE).frame == 9 && pending.output == 0, "a text", 9);
+    need(kalyubos_guest_take_frame(&guest, SECOND_CONSOLE, found, sizeof found, &count) == KALYUBOS_DONE && count == 9, "it is taken", count);
+    need(memcmp(found, TEXT, 9) == 0 && waits(SECOND_CONSOLE).frame == 0, "its bytes", 9);
+    need(kalyubos_guest_resize_device(&guest, SECOND_CONSOLE, 132, 43) == KALYUBOS_DONE && waits(SECOND_CONSOLE).interrupt == 3, "a size", 132);
+    need(reg(SECOND_CONSOLE, 0x100) == (132 | 43 << 16), "the size that is read", reg(SECOND_CONSOLE, 0x100));
+}
+
+/* A jump of a card's queue is noted for its window alone. */
+static void a_devices_fault_is_noted(void)
+{
+    struct kalyubos_fault fault = { 0 };
+    begin(9);
+    bring_up(CARD, VERSION_1, TRANSMIT, USUAL);
+    put(DRIVER + 2, 9, 2);
+    need(set(CARD, NOTIFY, TRANSMIT) == KALYUBOS_DONE && waits(CARD).interrupt == 2, "a jump of a card", waits(CARD).interrupt);
+    need(kalyubos_guest_last_fault(&guest, CARD, &fault) == KALYUBOS_DONE && fault.kind == KALYUBOS_FAULT_JUMP && fault.queue == TRANSMIT, "its fault", fault.kind);
+    need(kalyubos_guest_last_fault(&guest, SECOND_CONSOLE, &fault) == KALYUBOS_DONE && fault.kind == KALYUBOS_NO_FAULT, "no fault", fault.kind);
+}
+
+/* Other memory holds a card's ready queue, or the guest keeps its own. */
+static void a_devices_queue_in_other_memory(void)
+{
+    static const struct { uint64_t base; uint32_t answer; } ROWS[] = { { 0x90000000, KALYUBOS_BAD_RANGE }, { 0x80000000, KALYUBOS_DONE } };
+    begin(0);
+    bring_up(CARD, VERSION_1, TRANSMIT, USUAL);
+    for (size_t i = 0; i < sizeof ROWS / sizeof *ROWS; i++) {
+        const struct kalyubos_region region = { ROWS[i].base, LEN };
+        struct kalyubos_words words = { other, LEN / 8 };
+        need(kalyubos_guest_set_memory(&guest, &region, 1, &words, 1) == ROWS[i].answer, "other memory", i);
+    }
+}
+
 /* ---- a CPU that writes between two reads */
 
 /* HIGH is a file's from now on, and the library has it where each access is seen. A CPU adds 3 to its first word behind each. */
@@ -463,6 +620,13 @@ int main(void)
     chains_that_are_offered_again_and_again();
     a_list_of_a_packed_ring();
     two_reads_are_completed_the_other_way_round();
+    what_devices_take();
+    random_bytes();
+    a_frame_is_received();
+    two_frames_are_sent();
+    a_second_console();
+    a_devices_fault_is_noted();
+    a_devices_queue_in_other_memory();
     meddle();
     each_buffer_goes_out_as_it_was_copied();
     the_segment_that_is_judged_is_told();
