@@ -5,6 +5,7 @@ use crate::error::Error;
 use crate::ffi::answers::MORE;
 use crate::ffi::{self, device_kinds};
 use crate::identity::Identity;
+use crate::running::RunningGuest;
 use crate::tags::Tags;
 
 /// A further device, as a slot is made with it.
@@ -115,13 +116,26 @@ pub struct DevicePending {
     pub tags: Tags,
 }
 
+impl DevicePending {
+    // What C told.
+    fn of(told: &ffi::DevicePending) -> DevicePending {
+        DevicePending {
+            interrupt: told.interrupt,
+            starved: told.starved,
+            frame: (told.frame != 0).then_some(told.frame as usize),
+            tags: Tags::of(told.tags),
+        }
+    }
+}
+
 /// What became of bytes or of a frame that a device was handed, or its host.
 #[derive(Clone, Copy, Debug, Default, PartialEq, Eq, Hash)]
 #[must_use = "nothing else tells how much was taken, and that the slot's service pauses"]
 pub struct Handed<T> {
     /// How many bytes the device took, the first ones; or whether it took the frame, whole; or how many bytes the host took, if any.
     pub taken: T,
-    /// Whether the slot's service pauses that brings them to the driver, or takes more from it: [`Board::go_on`] goes on with it.
+    /// Whether the slot's service pauses that brings them to the driver, or takes more from it: [`Board::go_on`] goes on with it. Of a
+    /// guest that runs on, whether a queue of it is due: [`RunningGuest::go_on`] serves it.
     pub more: bool,
 }
 
@@ -151,12 +165,7 @@ impl Board {
         Error::check(unsafe {
             ffi::kalyubos_device_pending(self.handle(), slot, window_of(device), &mut told)
         })?;
-        Ok(DevicePending {
-            interrupt: told.interrupt,
-            starved: told.starved,
-            frame: (told.frame != 0).then_some(told.frame as usize),
-            tags: Tags::of(told.tags),
-        })
+        Ok(DevicePending::of(&told))
     }
 
     /// Supplies an entropy device with random bytes, or types to a console, and tells how many bytes it took, the first ones: it
@@ -262,6 +271,100 @@ impl Board {
     ) -> Result<(), Error> {
         Error::check(unsafe {
             ffi::kalyubos_resize_device(self.handle_mut(), slot, window_of(device), cols, rows)
+        })
+    }
+}
+
+/// The calls of a guest's further devices, each that of a [`Board`] of the same name, without a slot. [`Error::BadDevice`]: the guest has
+/// no such device, or it takes no such thing.
+///
+/// ```
+/// # use kalyubos::{CreateError, Device, Error, GuestConfig, RunningGuest, Slot};
+/// let card = Device::Network { mac: [2, 0, 0, 0, 0, 1], mtu: 1500 };
+/// let slot = Slot::hosted(0, 0x1000, 1).with_device(Device::Entropy).with_device(card);
+/// let mut guest = RunningGuest::create(&GuestConfig::new(&slot))?;
+/// assert_eq!(guest.supply(0, &[7; 5000])?.taken, 4096);
+/// assert!(guest.receive(1, &[7; 1514])?.taken);
+/// assert_eq!(guest.take_frame(1, &mut [0; 65536])?.taken, None);
+/// assert_eq!(guest.supply(2, &[7; 5000]), Err(Error::BadDevice));
+///
+/// let disk = Device::Disk { sectors: 8, read_only: false, identity: Default::default(), depth: 1 };
+/// let refused = RunningGuest::create(&GuestConfig::new(&Slot::hosted(0, 0x1000, 1).with_device(disk)));
+/// assert_eq!(refused.unwrap_err(), CreateError::BadDevice);
+/// # Ok::<(), Box<dyn std::error::Error>>(())
+/// ```
+impl RunningGuest {
+    /// What waits for a further device. Move its window's line by it after each [`write`](RunningGuest::write) to the window, after each
+    /// other call for it, and after each [`go_on`](RunningGuest::go_on). It never tells [`starved`](DevicePending::starved): supply bytes
+    /// until fewer are taken, and again after the guest's next write to the window.
+    pub fn device_pending(&self, device: u8) -> Result<DevicePending, Error> {
+        let mut told = ffi::DevicePending::default();
+        Error::check(unsafe {
+            ffi::kalyubos_guest_device_pending(self.handle(), window_of(device), &mut told)
+        })?;
+        Ok(DevicePending::of(&told))
+    }
+
+    /// Supplies an entropy device with random bytes, or types to a console, as [`Board::supply`].
+    pub fn supply(&mut self, device: u8, bytes: &[u8]) -> Result<Handed<usize>, Error> {
+        let mut taken = 0;
+        let number = unsafe {
+            ffi::kalyubos_guest_supply(
+                self.handle_mut(),
+                window_of(device),
+                bytes.as_ptr(),
+                bytes.len(),
+                &mut taken,
+            )
+        };
+        Handed::told(number, taken)
+    }
+
+    /// Hands a network card a frame, as [`Board::receive`].
+    pub fn receive(&mut self, device: u8, frame: &[u8]) -> Result<Handed<bool>, Error> {
+        let mut taken = false;
+        let number = unsafe {
+            ffi::kalyubos_guest_receive(
+                self.handle_mut(),
+                window_of(device),
+                frame.as_ptr(),
+                frame.len(),
+                &mut taken,
+            )
+        };
+        Handed::told(number, taken)
+    }
+
+    /// Moves out the oldest frame that a network card's driver sent, or all output of a console, as [`Board::take_frame`].
+    pub fn take_frame(
+        &mut self,
+        device: u8,
+        into: &mut [u8],
+    ) -> Result<Handed<Option<usize>>, Error> {
+        let mut len = 0;
+        let number = unsafe {
+            ffi::kalyubos_guest_take_frame(
+                self.handle_mut(),
+                window_of(device),
+                into.as_mut_ptr(),
+                into.len(),
+                &mut len,
+            )
+        };
+        Handed::told(number, (len != 0).then_some(len))
+    }
+
+    /// Sets whether a network card's link is up, and tells its driver.
+    pub fn set_link(&mut self, device: u8, up: bool) -> Result<(), Error> {
+        Error::check(unsafe {
+            ffi::kalyubos_guest_set_link(self.handle_mut(), window_of(device), up)
+        })
+    }
+
+    /// Gives a further console another size, and tells its driver.
+    pub fn resize_device(&mut self, device: u8, cols: u16, rows: u16) -> Result<(), Error> {
+        Error::check(unsafe {
+            ffi::kalyubos_guest_resize_device(self.handle_mut(), window_of(device), cols, rows)
         })
     }
 }

@@ -320,7 +320,7 @@ impl fmt::Display for CreateError {
             BadOutlet => "an outlet keeps 2^24 bytes at most",
             BadDepth => "a disk that the host serves has 1 to 64 operations in flight",
             BadDevice => {
-                "a network card has an MTU of 68 or more, and a disk fewer than 2^55 sectors and a depth of 1 to 64; a guest that runs on has none"
+                "a network card has an MTU of 68 or more, and a disk fewer than 2^55 sectors and a depth of 1 to 64; a guest that runs on has no further disk"
             }
             BadExtent => {
                 "a disk over the image has one or more spare sectors of its slot, which no other disk has"

@@ -14,7 +14,7 @@ use std::num::{NonZeroU32, NonZeroU64};
 use std::ptr::NonNull;
 use std::sync::atomic::AtomicU64;
 
-/// What a guest that runs on is made of: a slot whose disk the host serves, without further devices.
+/// What a guest that runs on is made of: a slot whose disk the host serves, without a further disk.
 #[derive(Clone, Copy, Debug)]
 #[must_use = "a config is there once a guest is made of it"]
 pub struct GuestConfig<'a> {
@@ -55,7 +55,8 @@ impl<'a> GuestConfig<'a> {
     }
 }
 
-/// A guest whose CPUs run on while it is served: a disk that the host serves, and a console. It is ended where it is dropped.
+/// A guest whose CPUs run on while it is served: a disk that the host serves, a console, and further network cards, consoles and
+/// entropy devices. It is ended where it is dropped.
 ///
 /// It is on no board, and shares nothing with a board or with another guest: a host has a lock for each. During its calls
 /// its CPUs, its transfers and the host's threads read and write its [memory](RunningGuest::memory) as they like. What
@@ -68,7 +69,6 @@ impl<'a> GuestConfig<'a> {
 ///   may stand in between, and none is refused for it.
 /// - After [`Pending::io`], [`Pending::more`] and [`Error::NoRoom`] operations may have begun:
 ///   [`in_flight`](RunningGuest::in_flight) says which.
-/// - [`Window::Device`] is [`Error::BadDevice`].
 ///
 /// ```
 /// use kalyubos::{
@@ -197,6 +197,14 @@ impl RunningGuest {
             ffi::kalyubos_guest_create(&mut handle, config)
         })?;
         CreateError::check(number).map(|()| RunningGuest { handle, memory })
+    }
+
+    pub(crate) fn handle(&self) -> &ffi::GuestHandle {
+        &self.handle
+    }
+
+    pub(crate) fn handle_mut(&mut self) -> &mut ffi::GuestHandle {
+        &mut self.handle
     }
 
     /// The guest's memory, of which a clone may be read and written at any moment, from any thread.

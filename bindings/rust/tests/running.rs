@@ -458,6 +458,63 @@ fn there_is_no_further_device() {
     }
 }
 
+/// A guest with a card, whose queue of this number has a chain of this buffer on offer, of 26 bytes.
+fn guest_with_card(queue_number: u32, flags: u16) -> RunningGuest {
+    let card = Device::Network {
+        mac: [2, 0, 0, 0, 0, 1],
+        mtu: 1500,
+    };
+    let mut guest = guest_of(&slot().with_device(Device::Entropy).with_device(card));
+    let memory = guest.memory().clone();
+    begin(&mut guest, Window::Device(1));
+    queue(&mut guest, Window::Device(1), queue_number, RECEIVE);
+    go_live(&mut guest, Window::Device(1));
+    describe(&memory, RECEIVE, &[(LINE, 26, flags)]);
+    offer(&memory, RECEIVE, 1);
+    guest
+}
+
+#[test]
+fn a_frame_is_received_behind_its_header() {
+    let mut guest = guest_with_card(0, WRITE);
+    let frame = [7; 14];
+    let handed = guest.receive(1, &frame).unwrap();
+    assert!(handed.taken && !handed.more);
+    assert_eq!(used(guest.memory(), RECEIVE), (1, 0, 26));
+    assert_eq!(bytes(guest.memory(), LINE + 12), frame);
+    assert_eq!(guest.device_pending(1).unwrap().interrupt, 1);
+    guest.set_link(1, false).unwrap();
+    assert_eq!(guest.device_pending(1).unwrap().interrupt, 3);
+    assert_eq!(guest.receive(1, &[]), Err(Error::BadDevice));
+}
+
+#[test]
+fn a_frame_that_is_sent_is_taken() {
+    let mut guest = guest_with_card(1, 0);
+    guest.memory().write(LINE + 12, &[9; 14]).unwrap();
+    let pending = guest.write(Window::Device(1), NOTIFY, 4, 1).unwrap();
+    assert_eq!(pending, Pending::default());
+    assert_eq!(guest.device_pending(1).unwrap().frame, Some(14));
+    let mut into = [0; 14];
+    assert_eq!(
+        guest.take_frame(1, &mut into[..13]),
+        Err(Error::ShortBuffer)
+    );
+    assert_eq!(guest.take_frame(1, &mut into).unwrap().taken, Some(14));
+    assert_eq!(into, [9; 14]);
+    assert_eq!(guest.take_frame(1, &mut into).unwrap().taken, None);
+    assert_eq!(guest.resize_device(1, 80, 25), Err(Error::BadDevice));
+}
+
+fn further_disk() -> Device {
+    Device::Disk {
+        sectors: 8,
+        read_only: false,
+        identity: Default::default(),
+        depth: 1,
+    }
+}
+
 #[test]
 fn each_refusal_of_create_is_told() {
     let refused = |slot: Slot| RunningGuest::create(&GuestConfig::new(&slot)).unwrap_err();
@@ -468,7 +525,7 @@ fn each_refusal_of_create_is_told() {
         "the host serves the disk of a guest that runs on"
     );
     for (slot, why) in [
-        (slot().with_device(Device::Entropy), CreateError::BadDevice),
+        (slot().with_device(further_disk()), CreateError::BadDevice),
         (slot().with_outlet((1 << 24) + 1), CreateError::BadOutlet),
         (slot().with_depth(65), CreateError::BadDepth),
         (
