@@ -759,8 +759,8 @@ static inline struct kalyubos_guest_config kalyubos_guest_config_of(const struct
 
 /*
  * Makes a guest and puts it into an empty handle. A refusal leaves the handle as it was and keeps no memory. The first of
- * these that holds is answered: HAS_BOARD; BAD_SIZE; NOT_HOSTED; BAD_DEVICE, where a further device's kind isn't known or is a
- * disk's, or a network card's MTU is below 68; BAD_LOAN, where `words` isn't as the regions are; BAD_OUTLET; NO_REGIONS, then region by region BAD_MEMORY_SIZE, BAD_MEMORY_BASE and REGIONS_NOT_APART; BAD_DEPTH;
+ * these that holds is answered: HAS_BOARD; BAD_SIZE; NOT_HOSTED; BAD_DEVICE; BAD_LOAN, where `words` isn't as the regions
+ * are; BAD_OUTLET; NO_REGIONS, then region by region BAD_MEMORY_SIZE, BAD_MEMORY_BASE and REGIONS_NOT_APART; BAD_DEPTH;
  * EXTENT_OUTSIDE, where `count` is 2^55 or more. NO_MEMORY may come in the place of those from BAD_LOAN on.
  *
  * Each run of words is taken: null and 0 are left in its place. After HAS_BOARD, BAD_SIZE, NOT_HOSTED and BAD_DEVICE all are
