@@ -1,6 +1,6 @@
 # The commands of the README, the library, its installing and its packages, the measurements, tries from outside, the hosts of the
 # library, and the suite. The first sentence above a target is its line in make help.
-.PHONY: check unproved unproved-program unproved-fast unproved-fast-program run prove show vshow look-test look-picture show-check test help library install uninstall dist deb dist-check bench fuzz broken trouble stops embed linux linux-test linux-picture stress doors peer mutants matrix planted vhost vhost-program vhost-stress
+.PHONY: check unproved unproved-program unproved-fast unproved-fast-program run prove show vshow look-test look-picture show-check test help library install uninstall dist deb dist-check bench fuzz broken trouble stops embed linux linux-test linux-picture stress doors peer mutants matrix planted vhost vhost-needs vhost-program vhost-stress
 
 TRACE ?= examples/two-guests.trace
 IMAGE ?=
@@ -94,9 +94,12 @@ packaging/out/libkalyubos.a: crates.txt crates/board_ffi/c_text/answer.c crates/
 
 # Builds vhost/out/kalyubos-vhost, which serves a disk to QEMU by vhost-user, over the library for C. It wants liburing-dev, libnbd-dev
 # and libseccomp-dev.
-vhost-program: $(if $(UNPROVED),,packaging/out/libkalyubos.a)
+vhost-program: vhost-needs $(if $(UNPROVED),,packaging/out/libkalyubos.a)
 	@$(if $(UNPROVED),packaging/unproved --fast board_ffi)
 	@$(MAKE) --no-print-directory -C vhost LIBRARY=$(CURDIR)/$(if $(UNPROVED),out/libkalyubos-unproved.a,packaging/out/libkalyubos.a)
+
+vhost-needs:
+	@$(MAKE) --no-print-directory -s -C vhost needs
 
 # Tries kalyubos-vhost under sanitizers, over the library without a proof: N hostile messages and N changes of rings (COUNT=N, a million), and
 # 100 kills. A disk that hangs is tried where the user may mount file systems; it wants what make vhost-program wants.
