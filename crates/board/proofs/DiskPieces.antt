@@ -1,5 +1,5 @@
 -- A piece of a service leaves what is in flight of each disk that the host serves: other devices keep it, and such a disk
--- looks at its queue at once.
+-- looks at its queue.
 use Rattle.std.proofs.Common.{◌≡◌, inl, inr, ℕ, zero, suc, ◌==◌, Bool, true, false, get_or, Option, Some, None, List, refl, sym, ◌∙◌, ap}
 use Rattle.std.specs.Prelude.{if◌then◌else◌}
 use Rattle.std.specs.List.{slice_get}
@@ -42,7 +42,7 @@ use Rattle.board.specs.Machine.{readied, with_input, with_write}
 use Rattle.board.specs.Pausing.{Begins, ComesTo, GoesOn, GoesOnBy, IsPiece, IsPieceAtDevice, TurnsTo, asked, is_hosts}
 use Rattle.board.specs.Slot.{SlotState}
 use Rattle.board.specs.World.{MayGive}
-use Rattle.board.proofs.DiskSteps.{Left, ModelSteps, Stays, StepsTo, at_left, cards_leave, changed_left, comes, disk_serves, further_stays, model_steps, same_model, sent_leaves, supplied_leaves, taking_leaves, unchanged}
+use Rattle.board.proofs.DiskSteps.{Left, ModelSteps, Stays, StepsTo, at_left, cards_leave, changed_left, comes, further_stays, model_steps, piece_serves, same_model, sent_leaves, supplied_leaves, taking_leaves, unchanged}
 use Rattle.board.proofs.Waiting.{outlasts_by}
 
 -- ---- what a piece leaves, as if it were an event of a further device of which the host says nothing
@@ -75,7 +75,7 @@ module _ (Says : HostEvent → Type 0) (stage : Stage) (budget : Budget) (came :
   piece_steps (Entropy pool) (suc q) m m' w w' other h = same_model Says (Entropy pool) other h.1.state
   piece_steps (Network card) q m m' w w' other h = Stays (ap disk_of h.is)
   piece_steps (Block disk) q m m' w w' other h =
-      disk_serves Says disk q m m' w w' h.1.after h.1.serves other h.1.is
+      piece_serves Says stage budget came disk q m m' w w' h.after h.serves other h.is
   piece_steps (Image disk) q m m' w w' other h = same_model Says (Image disk) other h.1.state
   piece_steps (Console terminal) q m m' w w' other h = Stays (ap disk_of h.is)
 

@@ -6,13 +6,16 @@ use Rattle.std.specs.Option.{option_and_then, option_map, option_map_or}
 use Rattle.std.proofs.lemmas.Bool.Decides.{eqb_tells}
 use Rattle.std.proofs.lemmas.Option.{same_Some}
 use Rattle.guest_memory.specs.Memory.{Memory}
+use Rattle.chain.specs.declared.budget.Budget.{Budget}
+use Rattle.chain.specs.declared.budget.Progress.{Progress}
+use Rattle.mmio_window.specs.declared.stage.Stage.{Stage}
 use Rattle.mmio_window.specs.declared.action.Action.{Action}
 use Rattle.mmio_window.specs.declared.action.Action.TheVariants.{ConfigWrite}
 use Rattle.mmio_window.specs.Window.{WindowState}
 use Rattle.mmio_window.specs.Writing.{action_of}
 use Rattle.block_device.specs.declared.device.BlockDevice.{BlockDevice}
 use Rattle.block_device.specs.declared.operation.HostEvent.{HostEvent}
-use Rattle.hosted_disk.specs.Disk.{HostedDisk, LooksAtQueue, ServesDisk}
+use Rattle.hosted_disk.specs.Disk.{HostedDisk, LooksAtQueue, LooksAtQueueTo, ServesDisk, ServesDiskTo}
 use Rattle.hosted_disk.specs.Told.{DoesAsTold}
 use Rattle.device_list.specs.Card.{Card, with_frame, with_link}
 use Rattle.device_list.specs.Device.{DeviceState, Receives, ServesDevice, ServesNotified, TakesSent, Told, Writes, device_written, freed_by, linked, notified_by, resized, taking, with_model}
@@ -44,14 +47,18 @@ use Rattle.board.proofs.TakenUp.{host_at, taken_hosts}
 use Rattle.board.proofs.Units.{disk_there}
 use Rattle.board.proofs.Ways.{Looks, Passes, Rests, Says, Waits, Way, by_disk}
 
--- The disk stays; a snapshot says whether it is on hold; it isn't there yet; its queue is looked at; or the host says this of
--- it, as may be.
+-- The disk stays; a snapshot says whether it is on hold; it isn't there yet; its queue is looked at, whole or in a piece; or the
+-- host says this of it, as may be.
 pub data DiskSteps (May : HostEvent → Type 0) (Restores : Type 0) (old new : Option HostedDisk) : Type 0 where
   Stays : new ≡ old → DiskSteps May Restores old new
   Retakes : Restores → KeepsHost old new → DiskSteps May Restores old new
   Comes : old ≡ None → DiskSteps May Restores old new
   IsLooked :
       (disk after : HostedDisk) (m m' : Memory) (w w' : WindowState) → LooksAtQueue disk m m' w w' after
+      → old ≡ Some disk → new ≡ Some after → DiskSteps May Restores old new
+  IsLookedTo :
+      (stage : Stage) (budget : Budget) (progress : Progress) (disk after : HostedDisk) (m m' : Memory)
+      (w w' : WindowState) → LooksAtQueueTo stage budget progress disk m m' w w' after
       → old ≡ Some disk → new ≡ Some after → DiskSteps May Restores old new
   IsTold :
       (said : HostEvent) → May said → (disk after : HostedDisk) (m m' : Memory) (w w' : WindowState)
@@ -117,6 +124,14 @@ module _ (May : HostEvent → Type 0) where
   disk_serves disk zero m m' w w' after h other is = IsLooked disk after m m' w w' h refl (ap disk_of is)
   disk_serves disk (suc q) m m' w w' after h other is =
       same_model (Block disk) other (is ∙ ap Block h.state)
+
+  pub piece_serves : (stage : Stage) (budget : Budget) (progress : Progress) (disk : HostedDisk) (q : ℕ) (m m' : Memory)
+      (w w' : WindowState) (after : HostedDisk) → ServesDiskTo stage budget progress disk q m m' w w' after
+      → (other : ModelState) → other ≡ Block after → ModelSteps May (Block disk) other
+  piece_serves stage budget progress disk zero m m' w w' after h other is =
+      IsLookedTo stage budget progress disk after m m' w w' h refl (ap disk_of is)
+  piece_serves stage budget progress disk (suc q) m m' w w' after h other is =
+      same_model (Block disk) other (is ∙ ap Block h.1.state)
 
   serves_steps : (model : ModelState) (q : ℕ) (m m' : Memory) (w w' : WindowState) (other : ModelState)
       → Serves model q m m' w w' other → ModelSteps May model other
@@ -336,6 +351,8 @@ model_steps {A} k n what old new d there left = by_steps left.steps
     by_steps (Comes none) = Comes (was ∙ none)
     by_steps (IsLooked disk after m m' w w' looks from to) =
         IsLooked disk after m m' w w' looks (was ∙ from) (is ∙ to)
+    by_steps (IsLookedTo stage budget progress disk after m m' w w' looks from to) =
+        IsLookedTo stage budget progress disk after m m' w w' looks (was ∙ from) (is ∙ to)
     by_steps (IsTold said may disk after m m' w w' told from to) =
         IsTold said (said_here k n what said may.0 may.1) disk after m m' w w' told (was ∙ from) (is ∙ to)
 

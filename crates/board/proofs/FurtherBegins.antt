@@ -1,5 +1,5 @@
 -- What is done to a further device begins: its service's first piece, or what is done at once.
-use Rattle.std.proofs.Common.{◌≡◌, inl, inr, length, ℕ, true, false, false, Option, Some, None, List, [], refl, sym, ◌∙◌, ap, subst}
+use Rattle.std.proofs.Common.{◌≡◌, ◌≢◌, inl, inr, length, ℕ, true, false, false, Option, Some, None, List, [], refl, sym, ◌∙◌, ap, subst}
 use Rattle.std.specs.Prelude.{if◌then◌else◌, Bool, IfErr, IfOk, Result, Ok, Err, is_none, is_some, unwrap_or}
 use Rattle.std.specs.List.{slice_get}
 use Rattle.std.specs.Option.{option_and_then, option_map, option_map_or}
@@ -26,14 +26,17 @@ use Rattle.board.specs.declared.reply.Reply.{Reply}
 use Rattle.board.specs.declared.reply.Reply.TheVariants.{BadRange, BadSlot, NoMemory, Took}
 use Rattle.board.specs.Devices.{device_asks, devices_readied, further_service, reply_at}
 use Rattle.board.specs.Image.{Health}
-use Rattle.board.specs.ImageDisks.{GivesAtDevice, image_served}
+use Rattle.board.specs.ImageDisks.{GivesAtDevice, image_served, image_served_in}
 use Rattle.board.specs.Outcome.{replies}
 use Rattle.board.specs.OverImage.{GivesOverImage}
-use Rattle.board.specs.Pausing.{ComesTo, TurnsTo}
+use Rattle.board.specs.declared.pause.Service.TheVariants.{Further}
+use Rattle.board.specs.Pausing.{ComesTo, PausesByLimit, TurnsTo, turn_of}
 use Rattle.board.specs.declared.slot.device_begins.Asked.{Asked}
 use Rattle.board.specs.Quiet.{AnswersAtDevice, AsksAtDevice, AsksImageDisk, BeginsAsked, BeginsAtDevice, DoesToDevice, ServesFurther}
 use Rattle.board.specs.Slot.{BoardSlot, state_of}
 use Rattle.board.proofs.Beside.{same_range}
+use Rattle.board.proofs.ImageDisks.{further_piece}
+use Rattle.board.proofs.Turns.{comes_to}
 use Rattle.board.proofs.FurtherPieces.{more_there, outgoing_is, sender, takes_by}
 use Rattle.board.specs.World.{MayGiveOverImage}
 
@@ -51,6 +54,59 @@ same_asks n (Write offset width value) image slot = refl
 same_asks n (Supply bytes) image slot = refl
 same_asks n (Receive frame) image slot = refl
 same_asks n _ image slot = refl
+
+-- ---- a piece of a service
+
+-- It pauses only where the budget has a limit.
+pub further_limited : {A : Type 0} (pause : Pause) (stage : Stage) (budget : Budget) (came : Progress) (n q : ℕ)
+    (m m' : Memory) (old new : List DeviceState) (turn : Turn A) → turn ≡ turn_of pause came
+    → DevicesServeTo stage budget came n q m m' old new → PausesByLimit budget turn
+further_limited pause stage budget Done n q m m' old new turn is h = λ next more. absurd (cc (is, more))
+further_limited pause stage budget More n q m m' old new turn is h = λ next more.
+    pauses_by_limit stage budget n q m m' old new h
+
+record IsNoRefusal {A : Type 0} (turn : Turn A) : Type 0 where
+  there : turn ≢ Answered BadSlot
+  in_range : turn ≢ Answered BadRange
+  answered : turn ≢ Answered NoMemory
+
+no_refusal : {A : Type 0} (n q : ℕ) (taken : Option ℕ) (came : Progress) (turn : Turn A)
+    → turn ≡ turn_of (further_service n q taken) came → IsNoRefusal turn
+no_refusal n q None Done turn is =
+    record { there = λ bad. cc (is, bad); in_range = λ bad. cc (is, bad); answered = λ bad. cc (is, bad) }
+no_refusal n q (Some taken) Done turn is =
+    record { there = λ bad. cc (is, bad); in_range = λ bad. cc (is, bad); answered = λ bad. cc (is, bad) }
+no_refusal n q taken More turn is =
+    record { there = λ bad. cc (is, bad); in_range = λ bad. cc (is, bad); answered = λ bad. cc (is, bad) }
+
+pub further_serves : {A : Type 0} (n q : ℕ) (taken : Option ℕ) (stage : Stage) (budget : Budget) (came : Progress)
+    (slot new : BoardSlot) (turn : Turn A) → image_served_in (Further n q) slot ≡ None
+    → DevicesServeTo stage budget came n q slot.memory new.memory slot.devices new.devices
+    → new ≡ record slot { memory = new.memory; devices = new.devices } → SameRange slot.memory new.memory
+    → turn ≡ turn_of (further_service n q taken) came
+    → ServesFurther (further_service n q taken) stage budget slot new turn
+further_serves {A} n q taken stage budget came slot new turn none h rest range is =
+    let no = no_refusal n q taken came turn is in
+    record {
+      comes = λ image health.
+          subst (λ (t : Turn A). ComesTo (further_service n q taken) stage budget (state_of image slot) health health
+          (state_of image new) [] t) (sym is)
+          (comes_to A (further_service n q taken) stage budget came (state_of image slot) health health
+          (state_of image new) []
+          (further_piece slot image n q stage budget came health (state_of image new) [] none (record {
+            served = h;
+            is = ap (state_of image) rest;
+            image = refl;
+            silent = refl;
+          })));
+      rest = rest;
+      range = range;
+      limited = further_limited (further_service n q taken) stage budget came n q slot.memory new.memory slot.devices
+          new.devices turn is h;
+      there = no.there;
+      in_range = no.in_range;
+      answered = no.answered;
+    }
 
 module _ {A : Type 0} (n : ℕ) (what : DeviceEvent A) (budget : Budget) (old : BoardSlot) where
   -- the first piece of the service that it asks for

@@ -9,7 +9,7 @@ use Rattle.block_device.specs.declared.operation.HostEvent.{HostEvent}
 use Rattle.block_device.specs.declared.operation.Verdict.{Verdict}
 use Rattle.block_device.specs.Flights.{HostedQueue, InFlight, IsLanding, given_up}
 use Rattle.block_device.specs.Tags.{freed, is_any}
-use Rattle.hosted_disk.specs.Disk.{HostedDisk, LooksUnless, queue_of}
+use Rattle.hosted_disk.specs.Disk.{HostedDisk, LooksUnless, LooksUnlessTo, queue_of}
 use Rattle.hosted_disk.specs.Told.{DoesAsTold, QueueTold, has_effect, held_by}
 use Rattle.block_device.proofs.Landing.{landed_free, landed_others}
 use Rattle.board.specs.declared.event.EventKind.{EventKind}
@@ -28,7 +28,7 @@ use Rattle.board.specs.Image.{Health}
 use Rattle.board.specs.Outcome.{Outcome}
 use Rattle.board.specs.Slot.{SlotState}
 use Rattle.board.specs.World.{MayGive, MayGiveBy, MayGiveOverImage}
-use Rattle.board.proofs.DiskSteps.{Comes, IsLooked, IsTold, Retakes, Stays, StepsTo, steps}
+use Rattle.board.proofs.DiskSteps.{Comes, IsLooked, IsLookedTo, IsTold, Retakes, Stays, StepsTo, steps}
 use Rattle.board.proofs.Flights.{same_tags}
 use Rattle.board.proofs.Identities.{given_fixed}
 use Rattle.board.proofs.Waiting.{waited}
@@ -189,6 +189,11 @@ module _ {A : Type 0} (disk : SlotDisk) (old : SlotState) (what : EventKind A) w
       subst (λ (b : Bool). LooksUnless b d.device (queue_of m w d) (queue_of m' w' after)) (sym (ap is_held from) ∙ on_hold)
       looks.looks in
       ap (tag_in tag) to ∙ (ap (λ (l : HostedQueue). TagIn l tag) same ∙ (sym (ap (tag_in tag) from) ∙ free))
+  free_from tag new on_hold other free (IsLookedTo stage budget progress d after m m' w w' looks from to) =
+      let same : queue_of m' w' after ≡ queue_of m w d =
+      (subst (λ (b : Bool). LooksUnlessTo b d.device stage budget progress (queue_of m w d) (queue_of m' w' after))
+      (sym (ap is_held from) ∙ on_hold) looks.looks).1 in
+      ap (tag_in tag) to ∙ (ap (λ (l : HostedQueue). TagIn l tag) same ∙ (sym (ap (tag_in tag) from) ∙ free))
   free_from tag new on_hold other free (IsTold said is d after m m' w w' told from to) =
       ap (tag_in tag) to
       ∙ word_free (said_of disk what) said tag d.device (queue_of m w d) (queue_of m' w' after) is other
@@ -211,6 +216,8 @@ module _ {A : Type 0} (disk : SlotDisk) (old : SlotState) (what : EventKind A) w
   stays_by new on_hold other keeps (Comes none) =
       let clash : false ≡ true = sym (ap is_held none) ∙ on_hold in absurd (cc clash)
   stays_by new on_hold other keeps (IsLooked d after m m' w w' looks from to) =
+      ap is_held to ∙ (ap (λ (k : HostedDisk). k.on_hold) looks.is ∙ (sym (ap is_held from) ∙ on_hold))
+  stays_by new on_hold other keeps (IsLookedTo stage budget progress d after m m' w w' looks from to) =
       ap is_held to ∙ (ap (λ (k : HostedDisk). k.on_hold) looks.is ∙ (sym (ap is_held from) ∙ on_hold))
   stays_by new on_hold other keeps (IsTold said is d after m m' w w' told from to) =
       ap is_held to

@@ -22,8 +22,8 @@ use Rattle.board.specs.Outcome.{Outcome, replies}
 use Rattle.board.specs.Slot.{SlotState}
 use Rattle.board.specs.World.{MayGive, MayGiveBy, MayGiveOverImage}
 use Rattle.board.proofs.Flights.{same_tags}
-use Rattle.board.proofs.DiskSteps.{Comes, IsLooked, IsTold, Retakes, Stays, StepsTo, steps}
-use Rattle.hosted_disk.proofs.Looking.{KeepsTag, keeps_tag, landing_keeps, look_left, unless_left}
+use Rattle.board.proofs.DiskSteps.{Comes, IsLooked, IsLookedTo, IsTold, Retakes, Stays, StepsTo, steps}
+use Rattle.hosted_disk.proofs.Looking.{KeepsTag, keeps_tag, landing_keeps, look_left, unless_left, unless_to_left}
 use Rattle.board.specs.Waiting.{may_wait, waits_beside}
 use Rattle.board.proofs.FurtherDevices.{device_may_wait}
 use Rattle.board.proofs.Replies.{busy_over_image, idle_over_image}
@@ -65,6 +65,10 @@ module _ {A : Type 0} (disk : SlotDisk) (old : SlotState) (tag : ℕ) (here : In
       ap tag_in to
       ∙ unless_left (KeepsTag tag) (keeps_tag tag) d.on_hold d.device (queue_of m w d) (queue_of m' w' after) looks.looks
       here (sym (ap tag_in from) ∙ taken)
+  outlasts_by new taken other (IsLookedTo stage budget progress d after m m' w w' looks from to) =
+      ap tag_in to
+      ∙ unless_to_left (KeepsTag tag) (keeps_tag tag) d.on_hold d.device stage budget progress (queue_of m w d)
+      (queue_of m' w' after) looks.looks here (sym (ap tag_in from) ∙ taken)
   outlasts_by new taken other (IsTold said is d after m m' w w' told from to) =
       ap tag_in to
       ∙ word_keeps (said_of disk what) said tag d.device d.on_hold (queue_of m w d) (queue_of m' w' after) is other.other

@@ -18,9 +18,12 @@ use Rattle.mmio_window.specs.Queue.{queue_kind}
 use Rattle.mmio_window.specs.Serving.{Notified}
 use Rattle.mmio_window.specs.Window.{WindowState, queue_at}
 use Rattle.block_device.specs.declared.operation.Verdict.{Verdict}
+use Rattle.chain.specs.declared.budget.Budget.{Budget}
+use Rattle.chain.specs.declared.budget.Progress.{Progress}
 use Rattle.chain.specs.declared.budget.Progress.TheVariants as progress
 use Rattle.block_device.specs.Asking.{status_by, unasked_device}
-use Rattle.block_device.specs.Flights.{HostedQueue, InFlight, unlimited}
+use Rattle.block_device.specs.Extent.{extent_disk}
+use Rattle.block_device.specs.Flights.{HostedQueue, InFlight, StopsWithin}
 use Rattle.block_device.specs.Request.{code_of}
 use Rattle.block_device.specs.Hosting.{CompletesIn}
 use Rattle.block_device.proofs.Unasked.{any_disk}
@@ -120,11 +123,11 @@ module _ (K : Memory → Memory → Type 0) (left : IsLeftByWrites K) where
       kept device (λ (m : Memory) (d : State). K old m) (left_by_each device old) q queue ending old new before
       after s t h (left.none old)
 
-  within_left : {State : Type 0} (device : Device State) (q : ℕ) (queue : Option Queue) (ending : Ending)
+  within_left : {State : Type 0} (device : Device State) (budget : Budget) (q : ℕ) (queue : Option Queue) (ending : Ending)
       (old new : Memory) (before after : WindowState) (s t : State)
-      → NotifiedWithin device unlimited q queue ending old new before after s t → K old new
-  within_left device q None ending old new before after s t h = same_left old new h.1.memory
-  within_left device q (Some queue) ending old new before after s t h =
+      → NotifiedWithin device budget q queue ending old new before after s t → K old new
+  within_left device budget q None ending old new before after s t h = same_left old new h.1.memory
+  within_left device budget q (Some queue) ending old new before after s t h =
       notified_left device q (Some queue) ending old new before after s t
       (record { last = h.last; wanted = h.wanted; service = h.service.service; window = h.window })
 
@@ -136,21 +139,34 @@ module _ (K : Memory → Memory → Type 0) (left : IsLeftByWrites K) where
 
   -- ---- a disk that the host serves
 
-  finished_left : {State : Type 0} (device : Device State) (q : ℕ) (queue : Option Queue) (ending : Ending)
+  finished_left : {State : Type 0} (device : Device State) (budget : Budget) (q : ℕ) (queue : Option Queue) (ending : Ending)
       (old new : Memory) (before after : WindowState) (s t : State)
-      → FinishesWithin device unlimited q queue ending old new before after s t → K old new
-  finished_left device q None ending old new before after s t h = same_left old new h.1.memory
-  finished_left {State} device q (Some queue) ending old new before after s t h =
+      → FinishesWithin device budget q queue ending old new before after s t → K old new
+  finished_left device budget q None ending old new before after s t h = same_left old new h.1.memory
+  finished_left {State} device budget q (Some queue) ending old new before after s t h =
       kept_by_end device (λ (m : Memory) (d : State). K old m) (left_by_each device old) _ _ ending h.wanted
       h.ends.ends (left.none old)
 
-  end_left : {State : Type 0} (device : Device State) (stage : Stage) (queue : Option Queue) (old new : Memory)
-      (before after : WindowState) (s t : State)
-      → ServesTo stage device unlimited 0 queue progress.Done old new before after s t → K old new
-  end_left device First queue old new before after s t h =
-      within_left device 0 queue h.ending old new before after s t h.notified
-  end_left device Next queue old new before after s t h =
-      finished_left device 0 queue h.ending old new before after s t h.finished
+  stop_left : {State : Type 0} (device : Device State) (stage : Stage) (budget : Budget) (queue : Option Queue)
+      (came : Progress) (old new : Memory) (before after : WindowState) (s t : State)
+      → ServesTo stage device budget 0 queue came old new before after s t → K old new
+  stop_left device First budget queue progress.Done old new before after s t h =
+      within_left device budget 0 queue h.ending old new before after s t h.notified
+  stop_left device Next budget queue progress.Done old new before after s t h =
+      finished_left device budget 0 queue h.ending old new before after s t h.finished
+  stop_left device First budget None progress.More old new before after s t h = absurd h
+  stop_left device Next budget None progress.More old new before after s t h = absurd h
+  stop_left device First budget (Some queue) progress.More old new before after s t h =
+      course_left device _ _ h.begins.pauses.course
+  stop_left device Next budget (Some queue) progress.More old new before after s t h =
+      course_left device _ _ h.pauses.course
+
+  stopped_by : (device : BlockDevice) (stage : Stage) (budget : Budget) (came : Progress) (old new : HostedQueue)
+      → StopsWithin device stage budget came old new
+      → ServesTo stage (unasked_device device) budget 0 (queue_at 0 old.window) came old.memory new.memory old.window
+      new.window (extent_disk device.extent any_disk) (extent_disk device.extent any_disk)
+  stopped_by device stage budget progress.More old new h = h.stops any_disk
+  stopped_by device stage budget progress.Done old new h = h.stops any_disk
 
   abbrev MemoryLeft : HostedQueue → HostedQueue → Type 0
   MemoryLeft old new = K old.memory new.memory
@@ -161,9 +177,10 @@ module _ (K : Memory → Memory → Type 0) (left : IsLeftByWrites K) where
     both = λ a b c one other. left.both a.memory b.memory c.memory one other;
     asks = λ device stage old here new next.
         course_left (unasked_device device) _ _ (next.asks any_disk).asks.stops.course;
-    ends = λ device stage old new no_more.
-        end_left (unasked_device device) stage (queue_at 0 old.window) old.memory new.memory old.window new.window
-        _ _ (no_more.ends any_disk);
+    stops = λ device stage budget came old new no_more.
+        stop_left (unasked_device device) stage budget (queue_at 0 old.window) came old.memory new.memory old.window
+        new.window (extent_disk device.extent any_disk) (extent_disk device.extent any_disk)
+        (stopped_by device stage budget came old new no_more);
   }
 
   given_left : (here : InFlight) (verdict : Verdict) (old new : Memory) (before after : WindowState)

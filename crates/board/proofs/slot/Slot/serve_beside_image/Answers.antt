@@ -1,5 +1,6 @@
 use Rattle.std.proofs.Common.{refl, sym, ◌∙◌}
 use Rattle.board.specs.Slot.{state_of}
+use Rattle.board.proofs.FurtherBegins.{further_limited}
 use Rattle.board.proofs.ImageDisks.{further_piece}
 use Rattle.board.proofs.Turns.{has_bytes, never_lacks, refuses, sends, silent_turn}
 use Rattle.board.proofs.slot.Slot.serve_beside_image.Goals as goal
@@ -58,3 +59,10 @@ returns-in-Further-clause-serves g c = λ image health.
       image = refl;
       silent = refl;
     }))))
+
+pub returns-in-Further-clause-limited : goal.returns-in-Further-clause-limited
+returns-in-Further-clause-limited g c =
+    let served = c.serve_further-progress in
+    further_limited c.args.pause c.args.stage c.args.budget served.result c.in-Further.device c.in-Further.queue
+    c.args.self.now.memory served.new.self.memory c.args.self.now.devices served.new.self.devices
+    c.turn-in-Further.result c.turn-in-Further.ensures served.ensures.served
