@@ -33,7 +33,7 @@ use Rattle.session.specs.declared.progress.Progress.TheVariants as progress
 use Rattle.session.specs.declared.refusal.Refusal.{Refusal}
 use Rattle.session.specs.declared.response.Response.{Response}
 use Rattle.session.specs.declared.response.Response.TheVariants.{Answered, More, Busy}
-use Rattle.session.specs.Answering.{went_on_to}
+use Rattle.session.specs.Answering.{Means, served_response, went_on_to}
 use Rattle.session.specs.Operations.{HasAsked}
 use Rattle.session.specs.Pacing.{GoOn, Handle, response_to}
 use Rattle.session.specs.Pausing.{ComesTo, IsCall, IsTurn, WentOn}
@@ -174,6 +174,18 @@ pub asks_where : {A : Type 0} (response : Response A) (r : Result Progress Refus
 asks_where response (Ok came) asks P says same never =
     (λ is. same.0 ((says.0 is).0), λ p. says.1 (same.1 p, λ more. never more p))
 asks_where response (Err why) asks P says same never = tt
+
+-- and so is one whose service may pause while operations begin
+pub asks_unless : {A : Type 0} (response : Response A) (r : Result Progress Refusal) (asks : Bool) (P : Type 0)
+    → IfOk r (λ came. (came ≡ progress.Asks) ↔ (IsTrue asks × (response ≢ More)))
+    → Means served_response r response → IsTrue asks ↔ P
+    → IfOk r (λ came. (came ≡ progress.Asks) ↔ (P × (came ≢ progress.More)))
+asks_unless response (Ok progress.Done) asks P says told same =
+    (λ is. absurd (cc (is)), λ p. says.1 (same.1 p.0, λ more. cc (told, more)))
+asks_unless response (Ok progress.More) asks P says told same = (λ is. absurd (cc (is)), λ p. absurd (p.1 refl))
+asks_unless response (Ok progress.Asks) asks P says told same =
+    (λ is. (same.0 ((says.0 refl).0), λ more. cc (more)), λ p. refl)
+asks_unless response (Err why) asks P says told same = tt
 
 -- the tags that a call found in flight, and left so, say whether something began
 pub asked_where : (before after old new : Option ℕ) (asks : Bool) → before ≡ old → after ≡ new

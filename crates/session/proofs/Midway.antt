@@ -332,7 +332,7 @@ under_way : (model model' : ModelState) (q : ℕ) (m m' : Memory) (w w' : Window
 under_way (Entropy pool) model' zero m m' w w' h = ap image_of h.is
 under_way (Entropy pool) model' (suc q) m m' w w' h = absurd h
 under_way (Network card) model' q m m' w w' h = ap image_of h.is
-under_way (BlockModel disk) model' q m m' w w' h = absurd h
+under_way (BlockModel disk) model' q m m' w w' h = ap image_of h.is
 under_way (Console terminal) model' q m m' w w' h = ap image_of h.is
 under_way (Image disk) model' q m m' w w' h = absurd h
 

@@ -45,9 +45,10 @@ impl<A: Allocator + Copy> Session<A> {
     }
 
     /// A guest's write of a further device's window (4.2.2). A queue that it notifies is served to its end, or until the budget
-    /// is spent: then more is to come, and `go_on` goes on with it. So is one of a disk over the image; a look at the queue of a
-    /// disk that the host serves is never cut, and operations of it may begin. It is refused for a bad slot or device, while a
-    /// service of the slot is paused, and where it is one of such a disk's Status or QueueReady while something of it is in flight.
+    /// is spent: then more is to come, and `go_on` goes on with it. With a write to a disk that the host serves operations may
+    /// begin; where more is to come that isn't told, and `in_flight` says it at the end. It is refused for a bad slot or device,
+    /// while a service of the slot is paused, and where it is one of such a disk's Status or QueueReady while something of it is
+    /// in flight.
     pub fn write_device(
         &mut self,
         slot: u8,
@@ -59,7 +60,7 @@ impl<A: Allocator + Copy> Session<A> {
         ensures call { IsToldCall {A = A} self.old slot (EventKind.Device device (DeviceEvent.Write offset width value))
             (Means served_response result) self.new }
         ensures asks { IfOk result (λ progress.
-            (progress ≡ Progress.Asks) ↔ HasAsked slot (SlotDisk.Further device) self.old self.new) }
+            (progress ≡ Progress.Asks) ↔ (HasAsked slot (SlotDisk.Further device) self.old self.new × (progress ≢ Progress.More))) }
         ensures refuses { RefusesAtDevice {A = A} slot device (DeviceEvent.Write offset width value)
             ((¬ IsIdle slot self.old)
             ⊎ HoldsUp {A = A} slot (EventKind.Device device (DeviceEvent.Write offset width value)) self.old) self.old result }

@@ -89,7 +89,8 @@ impl<A: Allocator + Copy> Session<A> {
     }
 
     /// Goes on with the service of a slot that is paused, within the budget of one call, and answers as the write did
-    /// that it serves. Where none is paused there is nothing left to do. It never asks the host for anything.
+    /// that it serves. Where none is paused there is nothing left to do. Operations of a further disk may begin with it, which
+    /// isn't told: `in_flight` says it.
     pub fn go_on<'s>(&'s mut self, slot: u8) -> Told<Progress>
         ensures call { WentOn A self.old slot result.answer self.new }
         ensures asks { IfOk result.answer (λ progress.
