@@ -227,25 +227,25 @@ def offered_bits(window):
     return bits_of(offered_by(window))
 
 
-def flights_of(slots, fields):
-    """What is in flight of the slot that an event names: by its own tags, and by its further disks' numbers and tags."""
-    number = int(fields[0], 16)
-    if number >= len(slots):
-        return (), {}
-    slot = slots[number]
-    further = {f"{at:x}/{tag:x}": asked for at, device in enumerate(slot.devices) if device.tags for tag, asked in enumerate(device.tags) if asked}
-    return [*slot.tags], further
+# The operations that were asked for since this was emptied.
+BEGAN = []
+
+
+def ask(asked, *words, **more):
+    """Notes an operation as it is asked for: it begins with the event that is handled."""
+    ASK(asked, *words, **more)
+    BEGAN.append(asked)
 
 
 def hosted_record_of(slots, word, fields):
-    """A record, and behind it the operations that began with its event; events that begin none are told by one look."""
-    if word in ("r", "mr", "mw", "dr", "sz", "in", "plug", "supply", "frame", "take", "dsent", "link", "dsz"):
-        return f"{model.record_of(slots, word, fields)} -"
-    before, further = flights_of(slots, fields)
+    """A record, and behind it the operations that began with its event, by their tags, or by their further disks' numbers and tags."""
+    BEGAN.clear()
     record = model.record_of(slots, word, fields)
-    now, further_now = flights_of(slots, fields)
-    began = [f"{tag:x}={asked}" for tag, asked in enumerate(now) if asked and asked is not before[tag]]
-    began += [f"{name}={asked}" for name, asked in further_now.items() if asked is not further.get(name)]
+    if not BEGAN:
+        return f"{record} -"
+    slot = slots[int(fields[0], 16)]
+    began = [f"{tag:x}={asked}" for tag, asked in enumerate(slot.tags) if asked in BEGAN]
+    began += [f"{at:x}/{tag:x}={asked}" for at, device in enumerate(slot.devices) for tag, asked in enumerate(device.tags) if asked in BEGAN]
     return f"{record} {';'.join(began) or '-'}"
 
 
@@ -284,7 +284,9 @@ def use():
     model.REPLIES.update(mr=memory_read, mw=memory_write)
     model.Queue.take, model.Queue.give, model.Slot.serve, model.Chain.write = take, give, serve, written
     model.Window.negotiated, model.Window.offered_bits, model.hosted_record_of = negotiated, offered_bits, hosted_record_of
+    model.Asks.__init__ = ask
     calls.MODEL = vars(model)
 
 
 FAULT_IN, FAULT_OF, TAKE, GIVE, SERVE = trace_text.fault_in, trace_text.fault_of, model.Queue.take, model.Queue.give, model.Slot.serve
+ASK = model.Asks.__init__
