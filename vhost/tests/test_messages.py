@@ -10,7 +10,7 @@ import time
 
 import disks
 from front_end import HEAD, PAGE, VERSION, Ended, Feature, FrontEnd, Memory, Protocol, Refused, Region, Request
-from program import over, same
+from program import over, pattern, same
 from queues import Split
 
 BASE, SIZE = 0x80000000, 4 << 20
@@ -206,6 +206,39 @@ def test_bad_queues_do_not_run(make, name):
             front.tell = lambda request, said=b"", files=(): tell(request, payload if request == other else said, files)
             try:
                 front.start(front.queue)
+                refused = False
+            except (Refused, Ended):
+                refused = True
+            same(refused, True, "whether it is refused")
+        program.must_serve()
+
+
+def test_front_ends_at_once(make):
+    """Each on a socket of its own: what one does wrong ends that one alone."""
+    with make("--shared") as program:
+        program.kill()
+        first, program.options = program.socket, (*program.options, f"--socket-path={program.socket}-2")
+        program.start()
+        with program.machine() as front:
+            program.socket = f"{first}-2"
+            for at, bad in enumerate(BAD.values()):
+                with program.machine(memory=Memory(Region(BASE, SIZE))) as other:
+                    same(other.disk.do(disks.IN, 5, wanted=512).data, program.bytes(5), "sector 5")
+                    same(is_refused(other, *bad), True, f"whether bad message {at} is refused")
+                new = pattern(1, seed=at + 2)
+                same((front.disk.do(disks.OUT, 9, new).status, program.bytes(9)), (disks.OK, new), f"a write of the other behind message {at}")
+            same(front.stop(), len(BAD), "the place of the other's queue")
+
+
+def test_a_driver_without_version_1_is_refused(make):
+    with make() as program:
+        with FrontEnd(program.socket) as front:
+            front.negotiate([Feature.FLUSH, Feature.PROTOCOL])
+            memory = Memory(Region(BASE, SIZE))
+            front.set_memory(memory)
+            queue = Split(memory)
+            try:
+                front.start(queue)
                 refused = False
             except (Refused, Ended):
                 refused = True
