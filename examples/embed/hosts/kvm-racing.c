@@ -24,7 +24,7 @@
 #include "racing_host.h"
 #include "racing_machine.h"
 
-enum { MOST = 2, CPUS = 2, BYTES = 2000, REST = 50 /* microseconds */, NO_KVM = 77 };
+enum { MOST = 2, CPUS = 2, BYTES = 2000, SENT = 200, DRAWN_BYTES = 2000, REST = 50 /* microseconds */, NO_KVM = 77 };
 
 struct guest {
     struct racing_host *host;
@@ -124,12 +124,12 @@ static void add_cpu(struct guest *guest, unsigned number)
 static void set_lines(struct racing_host *host)
 {
     struct guest *guest = host->user;
-    const bool are_high[WINDOWS] = { host->lines.block != 0, host->lines.console != 0 };
     for (unsigned window = 0; window < WINDOWS && !host->control->is_hostile; window++) {
-        struct kvm_irq_level line = { .irq = window == BLOCK ? BLOCK_LINE : CONSOLE_LINE, .level = are_high[window] };
-        if (are_high[window] != guest->are_high[window])
+        const bool is_high = host->interrupts[window] != 0;
+        struct kvm_irq_level line = { .irq = LINES[window], .level = is_high };
+        if (is_high != guest->are_high[window])
             must(ioctl(guest->machine, KVM_IRQ_LINE, &line), "KVM_IRQ_LINE");
-        guest->are_high[window] = are_high[window];
+        guest->are_high[window] = is_high;
     }
 }
 
@@ -224,6 +224,8 @@ static void run_kind(unsigned kind, uint32_t requests, unsigned seconds, uint32_
     };
     struct control control = { .packed = kind >> 1, .event_idx = kind & 1, .seed = seed, .requests = requests };
     control.bytes = requests != 0 ? BYTES : 0;
+    control.sent_frames = requests != 0 ? SENT : 0;
+    control.drawn_bytes = requests != 0 ? DRAWN_BYTES : 0;
     power_on(&guests[0], &hosts[0], names[kind][0], control);
     if (requests == 0) {
         control.is_hostile = 1;

@@ -38,7 +38,7 @@ static void rest(struct machine *machine)
     __asm__ volatile("pause");
 }
 
-/* ---- interrupts: of the two lines alone, which are high until their driver has said that it knows */
+/* ---- interrupts: of the windows' lines alone, which are high until their driver has said that it knows */
 
 struct frame;
 struct gate {
@@ -63,22 +63,39 @@ __attribute__((interrupt)) static void on_console(struct frame *frame)
     out(0x20, 0x20);
 }
 
+__attribute__((interrupt)) static void on_entropy(struct frame *frame)
+{
+    (void)frame;
+    on_interrupt(&machine, ENTROPY);
+    out(0x20, 0x20);
+}
+
+__attribute__((interrupt)) static void on_card(struct frame *frame)
+{
+    (void)frame;
+    on_interrupt(&machine, CARD);
+    out(0x20, 0x20);
+}
+
 static void set_gate(unsigned line, void (*handler)(struct frame *frame))
 {
     uintptr_t at = (uintptr_t)handler;
     gates[FIRST_VECTOR + line] = (struct gate){ (uint16_t)at, 8, 0x8e00, (uint16_t)(at >> 16), (uint32_t)(at >> 32), 0 };
 }
 
-/* Tells the interrupt controller of a PC where its vectors begin, and that two lines are there, which are high by level. */
+/* Tells the interrupt controller of a PC where its vectors begin, and that these lines are there, which are high by level. */
 static void let_interrupts_in(void)
 {
+    static void (*const handlers[WINDOWS])(struct frame *frame) = { on_block, on_console, on_entropy, on_card };
+    uint8_t all = 0;
+    for (unsigned window = 0; window < WINDOWS; window++)
+        all |= (uint8_t)(1 << LINES[window]);
     const struct { uint16_t port; uint8_t value; } steps[] = {
-        { 0x20, 0x11 }, { 0x21, FIRST_VECTOR }, { 0x21, 4 }, { 0x21, 1 },
-        { 0x4d0, 1 << BLOCK_LINE | 1 << CONSOLE_LINE }, { 0x21, (uint8_t)~(1 << BLOCK_LINE | 1 << CONSOLE_LINE) },
+        { 0x20, 0x11 }, { 0x21, FIRST_VECTOR }, { 0x21, 4 }, { 0x21, 1 }, { 0x4d0, all }, { 0x21, (uint8_t)~all },
     };
     struct { uint16_t len; uint64_t at; } __attribute__((packed)) table = { sizeof gates - 1, (uintptr_t)gates };
-    set_gate(BLOCK_LINE, on_block);
-    set_gate(CONSOLE_LINE, on_console);
+    for (unsigned window = 0; window < WINDOWS; window++)
+        set_gate(LINES[window], handlers[window]);
     __asm__ volatile("lidt %0" : : "m"(table));
     for (unsigned i = 0; i < sizeof steps / sizeof *steps; i++)
         out(steps[i].port, steps[i].value);

@@ -5,7 +5,7 @@
  *
  * A sane guest writes a sector, reads it, zeroes it and reads it again, one request after the other, and compares what it reads.
  * It has eight sectors at once, then a while one alone: then nothing looks at the queue for a request whose notification is lost.
- * What is typed to its console it puts out again.
+ * What is typed to its console it puts out again, and a frame that its network card receives it sends back. It draws random bytes.
  */
 #ifndef RACING_GUEST_H
 #define RACING_GUEST_H
@@ -14,11 +14,16 @@
 
 /* The guest's memory, as far as devices reach it: two regions. The rings, tables, headers and segments lie in the first. */
 enum { LOW = 0x200000, HIGH = 0x400000, REGION_LEN = 0x10000 };
-enum { TABLES = LOW + 0x4000, HEADERS = LOW + 0x5000, SEGMENTS = LOW + 0x6000, DATA = HIGH, TEXTS = HIGH + 0x8000 };
-enum { SECTOR = 512, SECTORS = 4096, TEXT = 64 };
+enum { TABLES = LOW + 0x8000, HEADERS = LOW + 0x9000, SEGMENTS = LOW + 0xa000, DATA = HIGH, TEXTS = HIGH + 0x8000 };
+enum { FRAMES = HIGH + 0xa000, DRAWN = HIGH + 0xc000 };
+enum { SECTOR = 512, SECTORS = 4096, TEXT = 64, FRAME = 64, LEAST_FRAME = 14, FRAME_HEADER = 12 /* (5.1.6) */, DRAW = 16 };
 
-enum { BLOCK, CONSOLE, WINDOWS }; /* as the library numbers them */
-enum { DISK_QUEUE, RECEIVE, TRANSMIT, QUEUES };
+enum { BLOCK, CONSOLE, ENTROPY, CARD, WINDOWS }; /* as the library numbers them */
+enum { DISK_QUEUE, RECEIVE, TRANSMIT, DRAW_QUEUE, FRAMES_IN, FRAMES_OUT, QUEUES };
+
+/* Whose queue each is. The last of a window's is its second one. */
+static const uint32_t WINDOW_OF[QUEUES] = { BLOCK, CONSOLE, CONSOLE, ENTROPY, CARD, CARD };
+static const uint32_t PLACE_OF[QUEUES] = { 0, 0, 1, 0, 0, 1 };
 
 /* What a request asks for, and which step of a sector does it. */
 enum { IN = 0, OUT = 1, ZEROES = 13, STEPS = 4 };
@@ -37,14 +42,32 @@ static inline uint8_t typed_byte(uint32_t place)
     return (uint8_t)(place * 167 + place / 251);
 }
 
+/* The random byte of a place, and the byte of a place in a frame of this number. */
+static inline uint8_t drawn_byte(uint32_t place)
+{
+    return (uint8_t)(place * 97 + place / 241);
+}
+
+static inline uint8_t frame_byte(uint32_t number, uint32_t place)
+{
+    return place < 4 ? (uint8_t)(number >> 8 * place) : (uint8_t)(number * 31 + place * 167);
+}
+
+static inline uint32_t frame_len(uint32_t number)
+{
+    return LEAST_FRAME + number * 7 % (FRAME - LEAST_FRAME + 1);
+}
+
 /* What host and CPUs tell one another, in memory that no device reaches. */
 struct control {
     uint32_t packed, event_idx, is_hostile, seed;    /* by the host: what the guest is, */
     uint32_t requests, bytes;                        /* how many requests it makes and bytes are typed; 0: as many as come */
+    uint32_t sent_frames, drawn_bytes;               /* how many frames it is sent and random bytes it draws; 0: as many as come */
     _Atomic uint32_t stop, typed;                    /* that it is to end, and how many bytes were typed so far */
     _Atomic uint32_t ready, ended, kicks[QUEUES];    /* CPU 0 has begun, CPU 1 has ended, and how often it wants to notify */
     _Atomic uint32_t interrupts, notifies;           /* how many there were; notifications of a hostile guest: all stores */
     _Atomic uint32_t done, echoed, failed;           /* requests and bytes that came back; the line of a check that failed */
+    _Atomic uint32_t frames, returned, drawn;        /* frames that it was sent and that it sent back; random bytes it has drawn */
 };
 
 /* What stands round the CPUs. */
@@ -117,9 +140,9 @@ static inline void bring_up(struct machine *machine, uint32_t window, bool packe
                                   { 0x24, 1 }, { 0x20, packed ? 5 : 1 }, { 0x70, 11 } };
     for (unsigned i = 0; i < sizeof steps / sizeof *steps; i++)
         machine->store(machine, window, steps[i][0], steps[i][1]);
-    set_up_queue(machine, window, 0, window == BLOCK ? DISK_QUEUE : RECEIVE);
-    if (window == CONSOLE)
-        set_up_queue(machine, window, 1, TRANSMIT);
+    for (unsigned i = 0; i < QUEUES; i++)
+        if (WINDOW_OF[i] == window)
+            set_up_queue(machine, window, PLACE_OF[i], i);
     machine->store(machine, window, 0x70, 15);
 }
 
@@ -139,6 +162,8 @@ struct driver {
     struct place places[IDS];
     uint64_t sectors, state; /* how many sectors were begun, and the state of chance */
     uint32_t texts[IDS];     /* how many bytes stand in a buffer that is being put out */
+    uint32_t frames[IDS];    /* and in one whose frame is being sent */
+    uint32_t received;       /* how many frames came */
 };
 
 static inline uint64_t header_of(uint64_t id)
@@ -326,6 +351,85 @@ static inline bool echo(struct driver *driver)
     return is_any;
 }
 
+static inline uint64_t frame_at(uint64_t id)
+{
+    return FRAMES + 2 * FRAME * id;
+}
+
+static inline void await_frame(struct driver *driver, uint16_t id)
+{
+    const struct part room = { frame_at(id), FRAME_HEADER + FRAME, true };
+    offer(&driver->queues[FRAMES_IN], id, &room, 1, 0);
+}
+
+static inline void await_random(struct driver *driver, uint16_t id)
+{
+    const struct part room = { DRAWN + DRAW * (uint64_t)id, DRAW, true };
+    offer(&driver->queues[DRAW_QUEUE], id, &room, 1, 0);
+}
+
+/* A frame that came: the next one, whole, behind a header of one buffer (5.1.6.4.1). */
+static inline void check_frame(struct driver *driver, uint64_t at, uint32_t len)
+{
+    struct machine *machine = driver->machine;
+    uint32_t number = driver->received++;
+    CHECK(machine, load_64(machine->memory, at) == 0 && load_32(machine->memory, at + 8) == 1u << 16);
+    CHECK(machine, len == FRAME_HEADER + frame_len(number));
+    for (uint32_t i = 0; i < frame_len(number) && !machine->control->failed; i++)
+        CHECK(machine, load_8(machine->memory, at + FRAME_HEADER + i) == frame_byte(number, i));
+}
+
+/* Sends back the frames that came, and gives the card the buffers back that were sent: whether there were some. */
+static inline bool send_back(struct driver *driver)
+{
+    struct machine *machine = driver->machine;
+    uint16_t id;
+    uint32_t len;
+    bool is_any = false;
+    for (; has_used(&driver->queues[FRAMES_IN]) && !machine->control->failed; is_any = true) {
+        bool is_known = take(&driver->queues[FRAMES_IN], &id, &len);
+        CHECK(machine, is_known && driver->frames[id] == 0);
+        if (!machine->control->failed)
+            check_frame(driver, frame_at(id), len);
+        if (machine->control->failed)
+            return false;
+        const struct part frame = { frame_at(id), len, false };
+        store_32(machine->memory, frame_at(id) + 8, 0);
+        driver->frames[id] = len;
+        offer(&driver->queues[FRAMES_OUT], id, &frame, 1, 0);
+        tell(driver, false);
+    }
+    for (; has_used(&driver->queues[FRAMES_OUT]) && !machine->control->failed; is_any = true) {
+        bool is_known = take(&driver->queues[FRAMES_OUT], &id, &len) && len == 0;
+        CHECK(machine, is_known && driver->frames[id] != 0);
+        if (machine->control->failed)
+            return false;
+        driver->frames[id] = 0;
+        machine->control->returned++;
+        await_frame(driver, id);
+    }
+    return is_any;
+}
+
+/* Takes the random bytes that were drawn, and asks for more: whether there were some. */
+static inline bool draw(struct driver *driver)
+{
+    struct machine *machine = driver->machine;
+    uint16_t id;
+    uint32_t len;
+    bool is_any = false;
+    for (; has_used(&driver->queues[DRAW_QUEUE]) && !machine->control->failed; is_any = true) {
+        bool is_known = take(&driver->queues[DRAW_QUEUE], &id, &len);
+        CHECK(machine, is_known && len > 0 && len <= DRAW);
+        for (uint32_t i = 0; i < len && !machine->control->failed; i++)
+            CHECK(machine, load_8(machine->memory, DRAWN + DRAW * (uint64_t)id + i) == drawn_byte(machine->control->drawn++));
+        if (machine->control->failed)
+            return false;
+        await_random(driver, id);
+    }
+    return is_any;
+}
+
 /* Writes beside each status that the device is to write. Both stay. */
 static inline void mark(struct driver *driver)
 {
@@ -364,7 +468,9 @@ static inline bool is_done(const struct driver *driver)
 {
     const struct control *control = driver->machine->control;
     uint32_t bytes = control->stop ? control->typed : control->bytes;
-    return control->failed || (control->done == STEPS * driver->sectors && !has_more(driver) && control->echoed >= bytes);
+    uint32_t frames = control->stop ? control->frames : control->sent_frames;
+    bool has_all = control->echoed >= bytes && control->returned >= frames && (control->stop || control->drawn >= control->drawn_bytes);
+    return control->failed || (control->done == STEPS * driver->sectors && !has_more(driver) && has_all);
 }
 
 static inline void run_driver(struct machine *machine)
@@ -377,11 +483,15 @@ static inline void run_driver(struct machine *machine)
     for (uint16_t id = 0; id < IDS; id++) {
         driver.places[id].step = STEPS;
         await_text(&driver, id);
+        await_frame(&driver, id);
+        await_random(&driver, id);
     }
     while (!is_done(&driver)) {
         bool is_any = take_back(&driver);
         ask_for_more(&driver);
         is_any |= echo(&driver);
+        is_any |= send_back(&driver);
+        is_any |= draw(&driver);
         tell(&driver, true);
         if (!is_any)
             wait_a_while(&driver);
@@ -395,8 +505,8 @@ static inline void run_notifier(struct machine *machine)
 {
     struct control *control = machine->control;
     uint32_t told[QUEUES] = { 0 };
-    bring_up(machine, BLOCK, control->packed, control->event_idx, true);
-    bring_up(machine, CONSOLE, control->packed, control->event_idx, true);
+    for (uint32_t window = 0; window < WINDOWS; window++)
+        bring_up(machine, window, control->packed, control->event_idx, true);
     control->ready = 1;
     while (!control->ended) {
         for (unsigned i = 0; i < QUEUES; i++) {
@@ -404,14 +514,14 @@ static inline void run_notifier(struct machine *machine)
             if (kicks == told[i])
                 continue;
             told[i] = kicks;
-            machine->store(machine, i == DISK_QUEUE ? BLOCK : CONSOLE, 0x50, i == TRANSMIT);
+            machine->store(machine, WINDOW_OF[i], 0x50, PLACE_OF[i]);
             control->notifies++;
         }
         machine->rest(machine);
     }
 }
 
-/* Where a window's line is high. It tells of used chains alone: nobody resizes the console, and no reset is asked for. */
+/* Where a window's line is high. It tells of used chains alone: no size and no link changes, and no reset is asked for. */
 static inline void on_interrupt(struct machine *machine, uint32_t window)
 {
     uint32_t why = machine->load(machine, window, 0x60);
@@ -531,8 +641,8 @@ static inline void store_at_random(struct machine *machine)
 {
     struct control *control = machine->control;
     uint64_t state = 0x2545f4914f6cdd1du * (control->seed + 1);
-    bring_up(machine, BLOCK, control->packed, control->event_idx, true);
-    bring_up(machine, CONSOLE, control->packed, control->event_idx, true);
+    for (uint32_t window = 0; window < WINDOWS; window++)
+        bring_up(machine, window, control->packed, control->event_idx, true);
     while (!control->ended) {
         uint32_t window = (uint32_t)chance(&state, WINDOWS);
         uint64_t which = chance(&state, 64);

@@ -9,7 +9,7 @@
 #include <sys/syscall.h>
 #include <unistd.h>
 
-enum { CHAINS = 8 /* that a service serves at a time */, OUTLET = 1024 };
+enum { CHAINS = 8 /* that a service serves at a time */, OUTLET = 1024, MTU = 1500 };
 /* Of the watch: the microseconds between two turns, and the seconds in which a guest must go on. */
 enum { TURN = 2000, PATIENCE = 30 };
 
@@ -165,6 +165,41 @@ static bool show(struct racing_host *host)
     return taken > 0;
 }
 
+/* Takes all frames that the guest sent: of a sane guest those that it was sent, in their order. Whether a queue of it is due. */
+static bool take_frames(struct racing_host *host)
+{
+    bool is_due = false;
+    size_t len = 1;
+    while (len > 0) {
+        uint32_t answer = kalyubos_guest_take_frame(&host->guest, CARD, host->frame, sizeof host->frame, &len), number = (uint32_t)host->sent;
+        need(host, answer == KALYUBOS_DONE || answer == KALYUBOS_MORE, "take_frame", answer);
+        is_due |= answer == KALYUBOS_MORE;
+        if (len == 0)
+            break;
+        host->sent++;
+        if (host->control->is_hostile)
+            continue;
+        need(host, number < host->control->frames && len == frame_len(number), "another frame is sent", number);
+        for (uint32_t i = 0; i < len; i++)
+            need(host, host->frame[i] == frame_byte(number, i), "another byte of a frame is sent", number);
+    }
+    return is_due;
+}
+
+/* Tells the lines of all windows. */
+static void tell_lines(struct racing_host *host)
+{
+    host->interrupts[BLOCK] = host->lines.block;
+    host->interrupts[CONSOLE] = host->lines.console;
+    for (uint8_t window = ENTROPY; window < WINDOWS; window++) {
+        struct kalyubos_device_pending waits;
+        need(host, kalyubos_guest_device_pending(&host->guest, window, &waits) == KALYUBOS_DONE, "device_pending", window);
+        need(host, waits.frame == 0, "a frame waits that was taken", waits.frame);
+        host->interrupts[window] = waits.interrupt;
+    }
+    host->set_lines(host);
+}
+
 /* Whether a call was answered in a way that serves the guest. */
 static bool is_served(uint32_t answer)
 {
@@ -172,19 +207,19 @@ static bool is_served(uint32_t answer)
 }
 
 /*
- * What follows each call: takes the output, begins operations, and goes on with what is due. Between two parts of a service others
- * may call. True where the last call left output, so that one that was answered NO_ROOM can be made again.
+ * What follows each call: takes output and frames, begins operations, and goes on with what is due. Between two parts of a service
+ * others may call. True where the last call left output, so that one that was answered NO_ROOM can be made again.
  */
 static bool settle(struct racing_host *host, uint32_t answer)
 {
     bool goes_on = false;
     for (;;) {
-        bool has_output = show(host);
+        bool has_output = show(host), is_due = take_frames(host) || answer == KALYUBOS_MORE;
         begin(host);
-        host->set_lines(host);
-        host->mores += answer == KALYUBOS_MORE;
-        goes_on |= answer == KALYUBOS_MORE;
-        if (answer != KALYUBOS_MORE && !(answer == KALYUBOS_NO_ROOM && goes_on && has_output))
+        tell_lines(host);
+        host->mores += is_due;
+        goes_on |= is_due;
+        if (!is_due && !(answer == KALYUBOS_NO_ROOM && goes_on && has_output))
             return has_output;
         pthread_mutex_unlock(&host->lock);
         pthread_mutex_lock(&host->lock);
@@ -235,7 +270,52 @@ static void type(struct racing_host *host)
     settle(host, answer);
 }
 
-/* A hostile guest's disk is put on hold and released, and its console resized. The lock is held. */
+/* Supplies random bytes, as many as are left. The lock is held. */
+static void supply(struct racing_host *host)
+{
+    uint8_t bytes[100];
+    size_t taken = 0, len = 1 + chance(&host->state, sizeof bytes);
+    uint64_t most = host->control->drawn_bytes;
+    if (most != 0 && len > most - host->supplied)
+        len = most - host->supplied;
+    if (len == 0)
+        return;
+    for (size_t i = 0; i < len; i++)
+        bytes[i] = drawn_byte((uint32_t)(host->supplied + i));
+    uint32_t answer = kalyubos_guest_supply(&host->guest, ENTROPY, bytes, len, &taken);
+    need(host, (answer == KALYUBOS_DONE || answer == KALYUBOS_MORE) && taken <= len, "supply", answer);
+    host->supplied += taken;
+    settle(host, answer);
+}
+
+/* Hands the card the next frame, unless it was handed all or has no room. The lock is held. */
+static void send(struct racing_host *host)
+{
+    uint8_t frame[FRAME];
+    struct control *control = host->control;
+    uint32_t number = control->frames;
+    bool is_taken = false;
+    if (control->sent_frames != 0 && number >= control->sent_frames)
+        return;
+    for (uint32_t i = 0; i < frame_len(number); i++)
+        frame[i] = frame_byte(number, i);
+    uint32_t answer = kalyubos_guest_receive(&host->guest, CARD, frame, frame_len(number), &is_taken);
+    need(host, answer == KALYUBOS_DONE || answer == KALYUBOS_MORE, "receive", answer);
+    control->frames += is_taken;
+    settle(host, answer);
+}
+
+/* What comes from outside. The lock is held, but between two parts of a service. */
+static void hand_in(struct racing_host *host)
+{
+    type(host);
+    if (!host->control->stop)
+        supply(host);
+    if (!host->control->stop)
+        send(host);
+}
+
+/* A hostile guest's disk is put on hold and released, its console resized, and its card's link set. The lock is held. */
 static void disturb(struct racing_host *host)
 {
     struct kalyubos_fault fault;
@@ -245,6 +325,7 @@ static void disturb(struct racing_host *host)
     switch (host->turns++ % 8) {
     case 0: answer = kalyubos_guest_hold(&host->guest, &host->lines); break;
     case 1: answer = kalyubos_guest_release(&host->guest, &host->lines); break;
+    case 2: answer = kalyubos_guest_set_link(&host->guest, CARD, chance(&host->state, 2)); break;
     default: answer = kalyubos_guest_resize(&host->guest, (uint16_t)host->turns, 25, &host->lines);
     }
     need(host, is_served(answer) || answer == KALYUBOS_IDLE, "a call of the host", answer);
@@ -297,7 +378,7 @@ static void *serve(void *user)
         need(host, is_served(answer), "completed", answer);
         settle(host, answer);
         pthread_cond_broadcast(&host->changed);
-        type(host);
+        hand_in(host);
     }
     pthread_mutex_unlock(&host->lock);
     return NULL;
@@ -310,6 +391,7 @@ void racing_host_open(struct racing_host *host)
     struct kalyubos_slot slot = {
         .size = sizeof slot, .regions = { { LOW, REGION_LEN }, { HIGH, REGION_LEN } }, .count = SECTORS, .cols = 80, .rows = 25,
         .outlet = OUTLET, .hosted = true, .depth = DEPTH, .identity = "racing",
+        .devices = { { .kind = KALYUBOS_ENTROPY }, { .kind = KALYUBOS_NETWORK, .mtu = MTU, .mac = { 2, 0, 0, 0, 0, 1 } } },
     };
     make_memory(host);
     make_disk(host);
@@ -333,6 +415,8 @@ static void judge_all(const struct racing_host *host)
     need(host, control->requests == 0 || control->done == control->requests, "other requests were used", control->done);
     need(host, control->requests == 0 || control->typed == control->bytes, "other bytes were typed", control->typed);
     need(host, host->shown == control->typed, "typed bytes didn't come back", host->shown);
+    need(host, host->sent == control->frames && control->returned == control->frames, "frames didn't come back", host->sent);
+    need(host, control->stop || control->drawn == host->supplied, "random bytes are lost", control->drawn);
 }
 
 void racing_host_close(struct racing_host *host)
@@ -351,23 +435,25 @@ void racing_host_close(struct racing_host *host)
     fprintf(stderr, "%s: %" PRIu64 " operations of kinds %#x, %" PRIu64 " bytes moved, %u %s, %u interrupts, ", host->name,
             host->operations, host->kinds, host->bytes, control->notifies,
             control->is_hostile ? "stores to registers" : "notifications", control->interrupts);
-    fprintf(stderr, "%" PRIu64 " bytes put out, %" PRIu64 " pauses", host->output, host->mores);
+    fprintf(stderr, "%" PRIu64 " bytes put out, %" PRIu64 " frames sent, %u random bytes drawn, %" PRIu64 " pauses", host->output,
+            host->sent, control->drawn, host->mores);
     fprintf(stderr, control->is_hostile ? ", faults %#x\n" : "\n", host->faults);
 }
 
 /* ---- the watch */
 
 /*
- * Ends the process where no request came back for so long, and the guest's CPUs didn't end, or no byte did, though some were to
- * come.
+ * Ends the process where no request came back for so long, and the guest's CPUs didn't end, or no byte or frame did, though some
+ * were to come.
  */
 static void need_progress(struct racing_host *host, time_t now)
 {
     const struct control *control = host->control;
-    const uint32_t back[2] = { control->done, control->echoed };
-    const bool is_due[2] = { true, control->echoed < control->typed };
-    const char *const what[2] = { "requests come back no more, behind so many", "bytes come back no more, behind so many" };
-    for (int i = 0; i < 2 && !control->is_hostile; i++) {
+    const uint32_t back[3] = { control->done, control->echoed, control->returned };
+    const bool is_due[3] = { control->requests == 0 || control->done < control->requests, control->echoed < control->typed, control->returned < control->frames };
+    const char *const what[3] = { "requests come back no more, behind so many", "bytes come back no more, behind so many",
+                                  "frames come back no more, behind so many" };
+    for (int i = 0; i < 3 && !control->is_hostile; i++) {
         if (back[i] != host->seen[i] || !is_due[i] || control->ended || host->since[i] == 0)
             host->since[i] = now;
         host->seen[i] = back[i];
@@ -384,8 +470,9 @@ static bool watch(struct racing_host *host, bool is_over)
     pthread_mutex_lock(&host->lock);
     if (is_over) /* behind this nothing more is typed */
         control->stop = 1;
-    if (!control->ended)
-        type(host);
+    if (!control->ended) {
+        hand_in(host);
+    }
     if (control->is_hostile)
         disturb(host);
     pthread_mutex_unlock(&host->lock);

@@ -1,11 +1,11 @@
 /*
- * racing_host: the host of a guest that runs on while it is served (racing_guest.h): its handle, its lock, its disk, and what is
- * typed to its console. A thread of the disk's own moves bytes between the disk and the guest's memory during calls for the guest,
+ * racing_host: the host of a guest that runs on while it is served (racing_guest.h): its handle, its lock, its disk, what is typed to
+ * its console, the frames of its network card, and random bytes. A thread of the disk's own moves bytes between the disk and the guest's memory during calls for the guest,
  * by itself and by the kernel, and completes the operations. kvm-racing.c and racing_threads.c have such hosts.
  *
  * Each operation is judged as it begins: it lies inside the guest's memory and its disk. Of a sane guest it is the next one of its
- * sector, so a request that is lost or served twice is found. What the guest puts out is what was typed. What is wrong ends the
- * process with a line.
+ * sector, so a request that is lost or served twice is found. What the guest puts out is what was typed, and what it sends are the
+ * frames that it was sent, in their order. What is wrong ends the process with a line.
  */
 #ifndef RACING_HOST_H
 #define RACING_HOST_H
@@ -30,7 +30,8 @@ struct racing_host {
     pthread_mutex_t lock;    /* held for the calls of one exit, and for what follows */
     struct kalyubos_guest guest;
     struct kalyubos_pending lines;
-    void (*set_lines)(struct racing_host *host); /* tells both lines to the guest's CPUs */
+    uint32_t interrupts[WINDOWS];                /* InterruptStatus of each window, as the last call left it */
+    void (*set_lines)(struct racing_host *host); /* tells the lines to the guest's CPUs */
     void *user;
     uint8_t *memory; /* where the byte of the guest's address 0 would lie: nothing but the two regions can be touched */
     uint8_t *lent;   /* and where it would for the library: there too, or where `watch` says, for this file of so many bytes */
@@ -48,10 +49,12 @@ struct racing_host {
 
     uint64_t operations, bytes; /* how many operations are done, and how many bytes they have moved */
     uint64_t output, mores;     /* how many bytes were put out, and how often a service paused */
+    uint64_t supplied, sent;    /* how many random bytes it was supplied with, and how many frames it sent */
+    uint8_t frame[65536];       /* where one is taken */
     uint32_t kinds, faults;     /* bit n: an operation of kind n was done; a hostile guest's window asked for a reset for fault n */
     uint32_t shown, turns;      /* how many typed bytes came back, and how many turns the watch had */
-    uint32_t seen[2];           /* how many requests and bytes had come back at the last turn in which some had, */
-    time_t since[2];            /* and when that was, or nothing was to come */
+    uint32_t seen[3];           /* how many requests, bytes and frames had come back at the last turn in which some had, */
+    time_t since[3];            /* and when that was, or nothing was to come */
 };
 
 /* Makes the guest, where the name, the control, what sets the lines, the user and the watch are set. */

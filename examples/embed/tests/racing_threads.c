@@ -15,7 +15,7 @@
 #include "racing_accesses.h"
 #include "racing_host.h"
 
-enum { KINDS_OF_QUEUES = 4, MOST = 2 * KINDS_OF_QUEUES, BYTES = 20000 };
+enum { KINDS_OF_QUEUES = 4, MOST = 2 * KINDS_OF_QUEUES, BYTES = 20000, SENT = 500, DRAWN_BYTES = 5000 };
 enum { LOOKS = 1000, RESTS = 64, REST = 50 }; /* a CPU that waits sleeps so many microseconds in each so many turns */
 
 /* A CPU of a guest. */
@@ -42,8 +42,8 @@ static void must(bool holds, const char *what)
 
 static void set_lines(struct racing_host *host)
 {
-    lines[host - hosts][BLOCK] = host->lines.block;
-    lines[host - hosts][CONSOLE] = host->lines.console;
+    for (unsigned window = 0; window < WINDOWS; window++)
+        lines[host - hosts][window] = host->interrupts[window];
 }
 
 static uint32_t load(struct machine *machine, uint32_t window, uint32_t offset)
@@ -82,10 +82,11 @@ static void run_all(unsigned len, uint32_t requests, unsigned seconds, uint32_t 
     for (unsigned i = 0; i < len; i++) {
         controls[i] = (struct control){
             .packed = i >> 1 & 1, .event_idx = i & 1, .is_hostile = i >= KINDS_OF_QUEUES, .seed = seed + i, .requests = requests,
-            .bytes = requests != 0 ? BYTES : 0,
+            .bytes = requests != 0 ? BYTES : 0, .sent_frames = requests != 0 ? SENT : 0, .drawn_bytes = requests != 0 ? DRAWN_BYTES : 0,
         };
         hosts[i] = (struct racing_host){ .name = names[i], .control = &controls[i], .set_lines = set_lines, .watch = watch };
-        lines[i][BLOCK] = lines[i][CONSOLE] = 0;
+        for (unsigned window = 0; window < WINDOWS; window++)
+            lines[i][window] = 0;
         racing_host_open(&hosts[i]);
     }
     for (unsigned i = 0; i < 2 * len; i++) {
@@ -109,7 +110,8 @@ int main(int words_len, char **words)
     unsigned seconds = (unsigned)strtoul(words[2], NULL, 10);
     watch = words_len > 4 ? racing_accesses_watch : NULL;
     run_all(KINDS_OF_QUEUES, requests, 0, seed);
-    printf("racing_threads: of four guests each of %u requests was served once, and %d bytes typed and put out\n", requests, BYTES);
+    printf("racing_threads: of four guests each of %u requests was served once, %d bytes typed and put out, and %d frames sent back\n",
+           requests, BYTES, SENT);
     if (seconds != 0) {
         run_all(MOST, 0, seconds, seed);
         printf("racing_threads: beside four hostile guests they saw nothing, and no host was asked for anything outside\n");
