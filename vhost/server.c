@@ -27,7 +27,7 @@ enum wish { RUN, HOLD, STOP };
 enum word { NO_WORD, REACHED, GIVEN_UP };
 
 /* For how many milliseconds a cancelled transfer may take to end, and a thread then to say so. */
-enum { CANCEL_TIME = 1000, WORD_TIME = 1000 };
+enum { CANCEL_TIME = 1000, WORD_TIME = 3000 };
 
 struct server {
     struct origin origin;
