@@ -1,10 +1,12 @@
 -- Lent words beside the regions that they are for, and the regions of one call.
-use Rattle.std.proofs.Common.{◌≡◌, ◌∙◌, ℕ, zero, suc, ◌*◌, ◌+◌, ◌^◌, ◌<◌, ◌≤◌, List, [], ◌∷◌, Some, length, map, take, get_or, refl, sym, ap, arith}
+use Rattle.std.proofs.Common.{◌≡◌, ◌∙◌, ℕ, zero, suc, ◌*◌, ◌+◌, ◌-◌, ◌^◌, ◌<◌, ◌≤◌, List, [], ◌∷◌, Some, length, map, take, get_or, refl, sym, ap, arith}
 use Rattle.std.specs.List.{slice_get}
-use Rattle.std.proofs.lemmas.List.{get_or-map, length-map}
+use Rattle.std.proofs.lemmas.List.{get_or-map, length-map, length-replicate}
 use Rattle.std.proofs.lemmas.Option.{get_or_from_slice_get, same_Some, slice_get-get_or, slice_get_within}
 use Rattle.guest_memory.specs.declared.spec.RegionSpec.{RegionSpec}
-use Rattle.guest_memory.specs.Faults.{AreGood, IsGoodRegion}
+use Rattle.guest_memory.specs.Faults.{AreGood, IsGoodRegion, zeroed_region, zeroed_regions}
+use Rattle.guest_memory.proofs.Faults.{good_zeroed}
+use Rattle.guest_memory.proofs.InRegions.{first_base, last_region}
 use Rattle.racing_session.specs.Judging.{AreWordsOf}
 
 -- the first of some items are those of a list that has them at its places
@@ -82,3 +84,32 @@ module _ {V : Type 0} (items : V → List (Unit {0})) (regions : List RegionSpec
       ap (λ n. record { base = n; len = made.len }) base
       ∙ ap (λ n. record { base = (get_or regions i none).base; len = n }) (len ∙ long)
       ∙ found
+
+-- ---- how many addresses a memory has
+
+-- good regions have a last one, behind the first, and it ends where the memory does
+pub record Spans (rs : List RegionSpec) (first last : RegionSpec) : Type 0 where
+  pub some : 0 < length rs
+  pub from : first.base ≤ last.base
+  pub to : last.base + last.len ≡ first.base + length (zeroed_regions rs).bytes
+  pub fits : length (zeroed_regions rs).bytes < 2 ^ 64
+
+pub spans : (rs : List RegionSpec) (d : RegionSpec) → AreGood rs → Spans rs (get_or rs 0 d) (get_or rs (length rs - 1) d)
+spans [] d good = absurd (omega (arith, good.some))
+spans (r ∷ rs) d good =
+    let zs = map zeroed_region (r ∷ rs) in
+    let last = get_or (r ∷ rs) (length (r ∷ rs) - 1) d in
+    let size : length zs ≡ length (r ∷ rs) = length-map (r ∷ rs) zeroed_region in
+    let place : length zs - 1 ≡ length (r ∷ rs) - 1 = omega (arith, size) in
+    let here : get_or zs (length zs - 1) (zeroed_region last) ≡ zeroed_region last =
+    ap (λ (i : ℕ). get_or zs i (zeroed_region last)) place
+    ∙ get_or-map zeroed_region (r ∷ rs) (length (r ∷ rs) - 1) d (zeroed_region last) (omega arith) in
+    let at = last_region {rs = zs} {x = zeroed_region last} (good_zeroed (r ∷ rs) good) (sym here) in
+    let base = first_base (zeroed_region r) (map zeroed_region rs) in
+    let len = length-replicate {A = ℕ} last.len 0 in
+    record {
+      some = omega arith;
+      from = omega (arith, at.1, base);
+      to = omega (arith, at.0, base, len);
+      fits = at.2;
+    }

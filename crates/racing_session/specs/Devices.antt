@@ -11,7 +11,7 @@ use Rattle.device_list.specs.Model.{without_sent}
 use Rattle.racing_session.specs.declared.progress.Progress.{Progress}
 use Rattle.racing_session.specs.declared.told.DeviceWaits.{DeviceWaits}
 use Rattle.racing_session.specs.Further.{ServesNotified, WritesDevice}
-use Rattle.racing_session.specs.Session.{RacingSession, came_to, unseen}
+use Rattle.racing_session.specs.Session.{RacingSession, came_to, unseen, with_marks_of}
 
 -- the session with its further devices changed so: what is due of them stays
 abbrev pub with_devices : List DeviceState → RacingSession → RacingSession
@@ -21,17 +21,17 @@ with_devices devices session = record session { further = record session.further
 pub record ServesBehind (stood : List ℕ) (n : ℕ) (changed : List DeviceState) (queue : Option ℕ) (old new : RacingSession)
     (progress : Progress) : Type 0 where
   pub seen : Sightings
-  pub serves : ServesNotified queue (service_limits old.limits) n (unseen old.regions stood) seen
+  pub serves : ServesNotified queue (service_limits old.limits) n (unseen old stood) seen
       (with_devices changed old).further new.further
-  pub rest : new ≡ record old { further = new.further }
+  pub rest : new ≡ with_marks_of seen (record old { further = new.further })
   pub progress_is : progress ≡ came_to false new
 
 -- A guest's write of device n's window.
 pub record IsWrittenTo (stood : List ℕ) (n offset width value : ℕ) (old new : RacingSession) (progress : Progress) : Type 0 where
   pub seen : Sightings
   pub writes : WritesDevice (service_limits old.limits) n offset width value (slice_get old.further.devices n)
-      (unseen old.regions stood) seen old.further new.further
-  pub rest : new ≡ record old { further = new.further }
+      (unseen old stood) seen old.further new.further
+  pub rest : new ≡ with_marks_of seen (record old { further = new.further })
   pub progress_is : progress ≡ came_to false new
 
 -- The host takes what the driver of device n sent. Where nothing more waits there is room, so its transmit queue is served.

@@ -1,5 +1,5 @@
 -- Other memory for a guest while its devices go on: what becomes of its session, and why it is refused.
-use Rattle.std.specs.Prelude.{◌≡◌, ◌||◌, ◌&&◌, Bool, true, false, List}
+use Rattle.std.specs.Prelude.{◌≡◌, ◌||◌, ◌&&◌, Bool, true, false, List, []}
 use Rattle.guest_memory.specs.Faults.{AreGood, IsRefusedAt, zeroed_regions}
 use Rattle.guest_memory.specs.declared.spec.RegionSpec.{RegionSpec}
 use Rattle.racing_guest.specs.declared.reply.GuestQueue.TheVariants as queue
@@ -11,10 +11,10 @@ use Rattle.device_list.specs.List.{are_at_work, devices_fit}
 use Rattle.racing_session.specs.Judging.{AreWordsOf}
 use Rattle.racing_session.specs.Session.{RacingSession, is_due_in}
 
--- The session over other regions: all else of it stays. What stands in them is nobody's to say, as of the memory before: each
--- call begins `unseen`.
+-- The session over other regions: all else of it stays, but no bits of pages are kept any more. What stands in the regions is nobody's
+-- to say, as of the memory before: each call begins `unseen`.
 abbrev pub with_regions : List RegionSpec → RacingSession → RacingSession
-with_regions regions session = record session { regions = regions }
+with_regions regions session = record session { regions = regions; pages = [] }
 
 -- whether a queue is due, or an operation of a disk is in flight
 abbrev pub is_busy : RacingSession → Bool

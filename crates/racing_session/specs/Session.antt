@@ -5,7 +5,7 @@ use Rattle.guest_memory.specs.Faults.{zeroed_regions}
 use Rattle.guest_memory.specs.Memory.{Memory, SameRange}
 use Rattle.chain.specs.declared.budget.Progress as chain
 use Rattle.mmio_window.specs.Interrupts.{interrupt_bits}
-use Rattle.shared_memory.specs.Sightings.{Sightings}
+use Rattle.shared_memory.specs.Sightings.{Sightings, memory}
 use Rattle.racing_memory.specs.Past.{sightings_of}
 use Rattle.block_device.specs.declared.operation.HostEvent.{HostEvent}
 use Rattle.racing_hosted_disk.specs.declared.look.LookLimits.{LookLimits}
@@ -26,11 +26,12 @@ use Rattle.racing_session.specs.Answering.{answer_by, has_asked, has_asked_by, p
 use Rattle.racing_session.specs.Further.{Further, ServesDue, is_further_due, no_devices}
 use Rattle.racing_session.specs.Due.{due_after, due_by, is_any_due, none_due}
 
--- A guest, the regions of its memory, what its console put out and nobody has taken yet, which queues are due, the limits of
--- each service, and its further devices.
+-- A guest, the regions of its memory and the bits of its pages, if these are kept, what its console put out and nobody has taken yet,
+-- which queues are due, the limits of each service, and its further devices.
 pub record RacingSession : Type 0 where
   pub guest : RacingGuest
   pub regions : List RegionSpec
+  pub pages : List Bool
   pub output : Waiting
   pub due : Due
   pub limits : LookLimits
@@ -41,16 +42,25 @@ abbrev pub new_session : RacingSpec → RacingSession
 new_session spec = record {
   guest = fresh_guest spec.guest;
   regions = spec.regions;
+  pages = [];
   output = none_waiting spec.outlet;
   due = none_due;
   limits = spec.limits;
   further = no_devices;
 }
 
--- A memory of these regions before a call looks at it: these bytes stand there, from its first address on. Each clause holds of
+-- The memory of a session before a call looks at it: these bytes stand there, from its first address on. Each clause holds of
 -- whatever bytes.
-abbrev pub unseen : List RegionSpec → List ℕ → Sightings
-unseen regions stood = sightings_of (record { regions = regions; stood = stood; past = [] })
+abbrev pub unseen : RacingSession → List ℕ → Sightings
+unseen session stood = sightings_of (record {
+  regions = session.regions;
+  stood = record { bytes = stood; pages = session.pages };
+  past = [];
+})
+
+-- Behind a call that saw its memory so the bits of the pages are that memory's: those that were set, and those of its devices' stores.
+abbrev pub with_marks_of : Sightings → RacingSession → RacingSession
+with_marks_of seen session = record session { pages = (memory seen).pages }
 
 -- a memory of the session's regions, whatever stands there
 abbrev pub IsMemoryOf : RacingSession → Memory → Type 0
@@ -96,9 +106,9 @@ pub record IsWritten (stood : List ℕ) (window : GuestWindow) (offset width val
     (answer : Result Progress Refusal) : Type 0 where
   pub reply : Reply
   pub seen : Sightings
-  pub writes : WritesGuest window offset width value true old.limits (Some old.output.limit) (unseen old.regions stood) seen
+  pub writes : WritesGuest window offset width value true old.limits (Some old.output.limit) (unseen old stood) seen
       old.guest new.guest old.output.bytes new.output.bytes reply
-  pub rest : new ≡ with_guest new.guest new.output.bytes (due_after reply old.due) old
+  pub rest : new ≡ with_marks_of seen (with_guest new.guest new.output.bytes (due_after reply old.due) old)
   pub answer_is : answer ≡ answer_by reply (came_to (has_asked (in_flight old.guest) (in_flight new.guest)) new)
 
 -- ---- what is due
@@ -125,13 +135,13 @@ pub record GoesOn (stood : List ℕ) (old new : RacingSession) (answer : Result 
   pub reply_receive : Reply
   pub reply_transmit : Reply
   pub block : ServesIf old.due.block old.limits old.output.limit queue.Block
-      (record { guest = old.guest; output = old.output.bytes; seen = unseen old.regions stood }) looked reply_block
+      (record { guest = old.guest; output = old.output.bytes; seen = unseen old stood }) looked reply_block
   pub receive : ServesIf old.due.receive old.limits old.output.limit queue.Receive looked received reply_receive
   pub transmit : ServesIf old.due.transmit old.limits old.output.limit queue.Transmit received transmitted reply_transmit
   pub seen : Sightings
   pub further : ServesDue (service_limits old.limits) transmitted.seen seen old.further new.further
-  pub rest : new ≡ record (with_guest transmitted.guest transmitted.output
-      (due_after reply_transmit (due_after reply_receive (due_after reply_block none_due))) old) { further = new.further }
+  pub rest : new ≡ record (with_marks_of seen (with_guest transmitted.guest transmitted.output
+      (due_after reply_transmit (due_after reply_receive (due_after reply_block none_due))) old)) { further = new.further }
   pub answer_is : answer ≡ answer_by reply_transmit (came_to (has_asked (in_flight old.guest) (in_flight new.guest)) new)
 
 -- ---- what comes from outside
@@ -140,14 +150,14 @@ pub record GoesOn (stood : List ℕ) (old new : RacingSession) (answer : Result 
 pub record IsTyped (stood bytes : List ℕ) (old new : RacingSession) (progress : Progress) : Type 0 where
   pub so_far : chain.Progress
   pub seen : Sightings
-  pub takes : TakesInput bytes true old.limits (unseen old.regions stood) seen old.guest new.guest so_far
-  pub rest : new ≡ with_guest new.guest old.output.bytes (due_by queue.Receive so_far old.due) old
+  pub takes : TakesInput bytes true old.limits (unseen old stood) seen old.guest new.guest so_far
+  pub rest : new ≡ with_marks_of seen (with_guest new.guest old.output.bytes (due_by queue.Receive so_far old.due) old)
   pub progress_is : progress ≡ came_to false new
 
 -- The host says something of the disk.
 pub record IsSaid (stood : List ℕ) (said : HostEvent) (old new : RacingSession) (progress : Progress) : Type 0 where
   pub so_far : chain.Progress
   pub seen : Sightings
-  pub tells : IsTold said true old.limits (unseen old.regions stood) seen old.guest new.guest so_far
-  pub rest : new ≡ with_guest new.guest old.output.bytes (due_by queue.Block so_far old.due) old
+  pub tells : IsTold said true old.limits (unseen old stood) seen old.guest new.guest so_far
+  pub rest : new ≡ with_marks_of seen (with_guest new.guest old.output.bytes (due_by queue.Block so_far old.due) old)
   pub progress_is : progress ≡ came_to (has_asked_by said (in_flight old.guest) (in_flight new.guest)) new

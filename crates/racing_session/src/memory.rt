@@ -3,7 +3,8 @@
 ghost use Rattle.std.specs.Prelude.{◌≡◌, ◌↔◌, ◌*◌, ℕ, List, [], IsTrue, Some, length, map, take};
 ghost use Rattle.std.specs.List.{slice_get};
 ghost use Rattle.std.specs.Vec.{vec_items};
-ghost use Rattle.guest_memory.specs.Faults.{AreGood};
+ghost use Rattle.guest_memory.specs.Faults.{AreGood, zeroed_regions};
+ghost use Rattle.guest_memory.specs.Pages.{bits_of};
 ghost use Rattle.guest_memory.specs.declared.spec.RegionSpec.{RegionSpec};
 ghost use Rattle.racing_session.specs.Judging.{AreWordsOf};
 
@@ -28,7 +29,8 @@ impl<A: Allocator> Model for LentMemory<A> {
     ghost use Rattle.std.specs.Prelude.{List, map};
     ghost use Rattle.std.specs.Vec.{vec_items};
     ghost use Rattle.guest_memory.specs.declared.spec.RegionSpec.{RegionSpec};
-    ghost use Rattle.guest_memory.specs.Faults.{AreGood};
+    ghost use Rattle.guest_memory.specs.Faults.{AreGood, zeroed_regions};
+    ghost use Rattle.guest_memory.specs.Pages.{bits_of};
     ghost use Rattle.racing_session.specs.Judging.{AreWordsOf};
 
     ghost Value = { List RegionSpec };
@@ -48,6 +50,15 @@ impl<A: Allocator> LentMemory<A> {
         LentMemory { regions, words }
     }
 
+    /// How many addresses it has from its first byte to its last, those in gaps included.
+    pub(crate) fn len(&self) -> u64
+        ensures { result ≡ length (zeroed_regions self.now).bytes }
+    {
+        let regions = self.regions.as_slice();
+        let last = regions[regions.len() - 1];
+        last.base - regions[0].base + last.len
+    }
+
     /// Its regions, for one call. Behind the last one there are regions of no words.
     pub(crate) fn regions<'w>(&'w self) -> [RacingRegion<'w>; MOST_REGIONS]
         ensures { take (length self.now) result ≡ self.now }
@@ -65,15 +76,30 @@ impl<A: Allocator> LentMemory<A> {
         ]
     }
 
-    /// The memory of these regions, for one call, whatever stands there.
-    pub(crate) fn over<'r, 'w>(&self, regions: &'r [RacingRegion<'w>]) -> RacingMemory<'r, 'w>
+    /// The memory of these regions, for one call, whatever stands there. The bits of its pages are kept in these bytes.
+    pub(crate) fn over<'r, 'w>(
+        &self,
+        regions: &'r [RacingRegion<'w>],
+        pages: Vec<u8, Lodged>,
+    ) -> RacingMemory<'r, 'w>
         ghost stood: { List ℕ }
         requires { take (length self.now) regions.now ≡ self.now }
-        ensures { result ≡ record { regions = self.now; stood = stood; past = [] } }
+        ensures { result ≡ record {
+          regions = self.now;
+          stood = record { bytes = stood; pages = bits_of pages.items };
+          past = [];
+        } }
     {
         good_regions_make_a_memory();
-        RacingMemory::over(&regions[..self.words.len()])
+        RacingMemory::with_pages(&regions[..self.words.len()], pages)
     }
+}
+
+/// The bytes with the bits of the pages, which the memory of a call has meanwhile.
+pub(crate) fn lent(pages: &mut Vec<u8, Lodged>) -> Vec<u8, Lodged>
+    ensures { result.items ≡ pages.old.items }
+{
+    std::mem::replace(pages, Vec::new(Lodged))
 }
 
 // The region at a place with its words, or one of no words where there is none.

@@ -9,6 +9,7 @@ mod console;
 mod devices;
 mod disk;
 mod memory;
+mod pages;
 mod place;
 mod registers;
 
@@ -33,6 +34,8 @@ use std_alloc::vec::Lodged;
 pub struct RacingSession<A: Allocator = Global> {
     guest: RacingGuest<A>,
     memory: LentMemory<A>,
+    // The bits of its pages, if these are kept.
+    pages: Vec<u8, Lodged>,
     output: OutputQueue<A>,
     due: Due,
     limits: LookLimits,
@@ -41,6 +44,7 @@ pub struct RacingSession<A: Allocator = Global> {
 
 impl<A: Allocator> Model for RacingSession<A> {
     ghost use Rattle.guest_memory.specs.Faults.{zeroed_regions};
+    ghost use Rattle.guest_memory.specs.Pages.{bits_of};
     ghost use Rattle.device_list.specs.List.{AreSoundDevices};
     ghost use Rattle.racing_guest.specs.Guest.{IsSoundGuest};
     ghost use Rattle.racing_session.specs.Session.{RacingSession};
@@ -50,6 +54,7 @@ impl<A: Allocator> Model for RacingSession<A> {
     ghost view = { λ s. record {
       guest = s.guest;
       regions = s.memory;
+      pages = bits_of s.pages.items;
       output = s.output;
       due = s.due;
       limits = s.limits;
@@ -85,6 +90,7 @@ impl<A: Allocator + Copy> RacingSession<A> {
         Ok(RacingSession {
             guest,
             memory: LentMemory::new(spec.regions, words),
+            pages: Vec::new(Lodged),
             output,
             due: Due::none(),
             limits: spec.limits,

@@ -5,6 +5,7 @@ ghost use Rattle.console_device.specs.Input.{fitting};
 ghost use Rattle.racing_guest.specs.Console.{with_size};
 ghost use Rattle.racing_session.specs.Session.{IsTyped, waits_of};
 
+use crate::memory::lent;
 use crate::progress::progress_by;
 use crate::session::RacingSession;
 use crate::told::{Typed, Waits};
@@ -20,9 +21,11 @@ impl<A: Allocator> RacingSession<A> {
         ensures typed { IsTyped stood bytes.now self.old self.new result.progress }
         ensures waits { result.waits ≡ waits_of self.new }
     {
+        let pages = lent(&mut self.pages);
         let regions = self.memory.regions();
-        let mut mem = self.memory.over(&regions);
+        let mut mem = self.memory.over(&regions, pages);
         let (taken, so_far) = self.guest.input(bytes, &mut mem, self.limits);
+        self.pages = mem.into_pages();
         self.due = self.due.by(GuestQueue::Receive, so_far);
         Typed {
             taken,

@@ -12,6 +12,7 @@ ghost use Rattle.racing_session.specs.Further.{IsNotAdded};
 ghost use Rattle.racing_session.specs.Session.{came_to};
 
 use crate::further::DeviceRefusal;
+use crate::memory::lent;
 use crate::progress::{Progress, progress_by};
 use crate::session::RacingSession;
 use crate::session::registers::service_limits;
@@ -57,11 +58,14 @@ impl<A: Allocator> RacingSession<A> {
         ensures refused { IfErr result (IsWriteRefusal offset (slice_get self.old.further.devices device)) }
         ensures kept { OnErr result (self.new ≡ self.old) }
     {
+        let pages = lent(&mut self.pages);
         let regions = self.memory.regions();
-        let mut mem = Raced(self.memory.over(&regions));
+        let mut mem = Raced(self.memory.over(&regions, pages));
         let limits = service_limits(self.limits);
-        self.further
-            .write(device, offset, width, value, &mut mem, limits)?;
+        let further = &mut self.further;
+        let written = further.write(device, offset, width, value, &mut mem, limits);
+        self.pages = mem.0.into_pages();
+        written?;
         Ok(self.progress())
     }
 
@@ -174,10 +178,12 @@ impl<A: Allocator> RacingSession<A> {
         ghost stood: { List ℕ }
         ensures { ServesBehind stood device self.old.further.devices queue self.old self.new result }
     {
+        let pages = lent(&mut self.pages);
         let regions = self.memory.regions();
-        let mut mem = Raced(self.memory.over(&regions));
+        let mut mem = Raced(self.memory.over(&regions, pages));
         let limits = service_limits(self.limits);
         self.further.serve_notified(device, queue, &mut mem, limits);
+        self.pages = mem.0.into_pages();
         self.progress()
     }
 

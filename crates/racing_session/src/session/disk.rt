@@ -9,6 +9,7 @@ ghost use Rattle.racing_hosted_disk.specs.Told.{has_effect};
 ghost use Rattle.racing_session.specs.declared.progress.Refusal.{Refusal};
 ghost use Rattle.racing_session.specs.Session.{IsMemoryOf, IsSaid, IsSoundSession, in_flight, waits_of};
 
+use crate::memory::lent;
 use crate::progress::{Refusal, has_asked_by, progress_by};
 use crate::session::RacingSession;
 use crate::told::Told;
@@ -80,9 +81,12 @@ impl<A: Allocator> RacingSession<A> {
         ensures waits { result.waits ≡ waits_of self.new }
     {
         let before = self.guest.taken();
+        let pages = lent(&mut self.pages);
         let regions = self.memory.regions();
-        let mut mem = self.memory.over(&regions);
-        let Some(so_far) = self.guest.tell(said, &mut mem, self.limits) else {
+        let mut mem = self.memory.over(&regions, pages);
+        let told = self.guest.tell(said, &mut mem, self.limits);
+        self.pages = mem.into_pages();
+        let Some(so_far) = told else {
             return Told {
                 answer: Err(Refusal::Idle),
                 waits: self.waits(),

@@ -32,7 +32,7 @@ impl<A: Allocator> RacingSession<A> {
     }
 
     /// Gives the guest this memory in the place of the one before: these regions over the words that its host lends, a run for each.
-    /// Each ready queue is judged again, as when it was made ready. No word is read or written.
+    /// Each ready queue is judged again, as when it was made ready. No word is read or written. No bits of pages are kept any more.
     pub fn set_memory(
         &mut self,
         regions: Regions,
@@ -60,6 +60,7 @@ impl<A: Allocator> RacingSession<A> {
             return Err(MemoryRefusal::QueueOutside);
         }
         self.memory = memory;
+        self.pages = Vec::new(Lodged);
         Ok(())
     }
 }
@@ -71,7 +72,7 @@ fn fits<A: Allocator>(guest: &RacingGuest<A>, memory: &LentMemory<A>) -> bool
         → IsSoundGuest (zeroed_regions memory.now) guest.now }
 {
     let regions = memory.regions();
-    guest.fits(&memory.over(&regions))
+    guest.fits(&memory.over(&regions, Vec::new(Lodged)))
 }
 
 // Whether each ready queue of the further devices could be made ready over this memory.
@@ -81,5 +82,6 @@ fn devices_fit<A: Allocator>(further: &Further<A>, memory: &LentMemory<A>) -> bo
         → AreSoundDevices (zeroed_regions memory.now) further.now.devices }
 {
     let regions = memory.regions();
-    further.devices().fits(&memory.over(&regions))
+    let memory = memory.over(&regions, Vec::new(Lodged));
+    further.devices().fits(&memory)
 }

@@ -11,6 +11,7 @@ ghost use Rattle.racing_session.specs.Answering.{answer_by, has_asked};
 ghost use Rattle.racing_session.specs.Session.{GoesOn, IsWritten, ServesIf, came_to, in_flight, waits_of};
 
 use crate::due::Due;
+use crate::memory::lent;
 use crate::progress::{answer_by, has_asked, progress_by};
 use crate::session::RacingSession;
 use crate::told::Told;
@@ -41,11 +42,13 @@ impl<A: Allocator> RacingSession<A> {
         ensures waits { result.waits ≡ waits_of self.new }
     {
         let before = self.guest.taken();
+        let pages = lent(&mut self.pages);
         let regions = self.memory.regions();
-        let mut mem = self.memory.over(&regions);
+        let mut mem = self.memory.over(&regions, pages);
         let (limits, out) = (self.limits, &mut self.output);
         let guest = &mut self.guest;
         let reply = guest.write(window, offset, width, value, &mut mem, limits, out);
+        self.pages = mem.into_pages();
         self.due = self.due.after(reply);
         self.told(reply, before)
     }
@@ -58,8 +61,9 @@ impl<A: Allocator> RacingSession<A> {
         ensures waits { result.waits ≡ waits_of self.new }
     {
         let before = self.guest.taken();
+        let pages = lent(&mut self.pages);
         let regions = self.memory.regions();
-        let mut raced = Raced(self.memory.over(&regions));
+        let mut raced = Raced(self.memory.over(&regions, pages));
         let mem = &mut raced.0;
         let (due, limits, out) = (self.due, self.limits, &mut self.output);
         let guest = &mut self.guest;
@@ -67,6 +71,7 @@ impl<A: Allocator> RacingSession<A> {
         let receive = serve_if(due.receive, guest, GuestQueue::Receive, mem, limits, out);
         let transmit = serve_if(due.transmit, guest, GuestQueue::Transmit, mem, limits, out);
         self.further.go_on(&mut raced, service_limits(limits));
+        self.pages = raced.0.into_pages();
         self.due = Due::none().after(block).after(receive).after(transmit);
         self.told(transmit, before)
     }
