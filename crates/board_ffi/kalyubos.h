@@ -37,7 +37,7 @@
  * The library is built for x86-64-v2 (SSE4.2 and POPCNT) and Linux's calling convention.
  *
  * The library keeps no pointer of the caller but those of loans (kalyubos_create, kalyubos_keep_pages,
- * kalyubos_guest_create, kalyubos_guest_set_memory): a call copies what it needs.
+ * kalyubos_guest_create, kalyubos_guest_set_memory, kalyubos_guest_keep_pages): a call copies what it needs.
  *
  * Each call answers a number. After any but KALYUBOS_DONE its out parameters are unchanged, with these exceptions. A
  * struct kalyubos_pending is told after every answer where the slot exists. What was taken of what is handed in
@@ -127,8 +127,8 @@ enum {
     KALYUBOS_SHORT_BUFFER = 26,      /* the snapshot or the frame doesn't fit into the buffer; nothing is written */
     KALYUBOS_NO_REGIONS = 27,        /* a slot has no region of memory */
     KALYUBOS_REGIONS_NOT_APART = 28, /* a region doesn't begin behind a gap after the one before it */
-    KALYUBOS_BAD_LOAN = 29,          /* the loans have another number or length than the regions, or the bits of
-                                        kalyubos_keep_pages are too few */
+    KALYUBOS_BAD_LOAN = 29,          /* the loans have another number or length than the regions, or there are too few
+                                        bits for the pages */
     KALYUBOS_BAD_DEPTH = 30,         /* a disk that the host serves has a depth above 64 */
     KALYUBOS_OTHER_DEVICES = 31,     /* the snapshot has other further devices than the slot; nothing changed */
     KALYUBOS_BAD_DEVICE = 32,        /* a further device's kind isn't known, a network card's MTU is below 68, or a disk
@@ -887,11 +887,19 @@ uint32_t kalyubos_guest_set_place(struct kalyubos_guest *guest, uint8_t window, 
  *  - NO_REGIONS, then region by region BAD_MEMORY_SIZE, BAD_MEMORY_BASE and REGIONS_NOT_APART.
  *  - BAD_RANGE: the areas of a ready queue don't lie in these regions, each in one.
  * NO_MEMORY may come in the place of those from BAD_LOAN on. Each run of words is taken, as kalyubos_guest_create has it: after
- * BUSY all are as they were. No word is read or written.
+ * BUSY all are as they were. No word is read or written. After DONE no bits of pages are kept: lend others by
+ * kalyubos_guest_keep_pages, for the pages of this memory, before another call touches it.
  */
 KALYUBOS_LOOK_AT_IT
 uint32_t kalyubos_guest_set_memory(struct kalyubos_guest *guest, const struct kalyubos_region *regions,
                                    size_t regions_len, struct kalyubos_words *words, size_t words_len);
+
+/*
+ * Has the pages of the guest's memory marked in `bits` that its devices write to, as kalyubos_keep_pages; KVM's dirty log has
+ * those that its CPUs write to. `bits` is lent until kalyubos_guest_destroy, a kalyubos_guest_set_memory that is done, or the
+ * next such call that is DONE. A call sets bits while it is made, so read and clear them between two calls of this guest.
+ */
+uint32_t kalyubos_guest_keep_pages(struct kalyubos_guest *guest, struct kalyubos_loan bits);
 
 /* InterruptStatus of both windows, as kalyubos_interrupts. */
 uint32_t kalyubos_guest_interrupts(const struct kalyubos_guest *guest, uint8_t *block, uint8_t *console);

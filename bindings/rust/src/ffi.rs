@@ -524,6 +524,7 @@ unsafe extern "C" {
         words: *mut Words,
         words_len: usize,
     ) -> u32;
+    pub fn kalyubos_guest_keep_pages(guest: *mut GuestHandle, bits: Loan) -> u32;
     pub fn kalyubos_guest_interrupts(
         guest: *const GuestHandle,
         block: *mut u8,

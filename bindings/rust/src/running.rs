@@ -130,6 +130,8 @@ pub struct RunningGuest {
     handle: ffi::GuestHandle,
     // The words that the library has are kept by it.
     memory: SharedMemory,
+    // The bits of its pages that the library has.
+    kept: Vec<u8>,
 }
 
 // SAFETY: a handle is proved to be `Send`: what it owns, any thread may use and free, one at a time.
@@ -196,7 +198,11 @@ impl RunningGuest {
         let number = config.with_c(&mut memory.in_c(), |config| unsafe {
             ffi::kalyubos_guest_create(&mut handle, config)
         })?;
-        CreateError::check(number).map(|()| RunningGuest { handle, memory })
+        CreateError::check(number).map(|()| RunningGuest {
+            handle,
+            memory,
+            kept: Vec::new(),
+        })
     }
 
     pub(crate) fn handle(&self) -> &ffi::GuestHandle {
@@ -378,7 +384,28 @@ impl RunningGuest {
             )
         })?;
         self.memory = memory;
+        self.kept = Vec::new();
         Ok(())
+    }
+
+    /// Has it kept from now on which pages of the guest's memory its devices write to, as
+    /// [`Board::keep_pages`](crate::Board::keep_pages). After [`set_lent`](RunningGuest::set_lent) none are kept.
+    pub fn keep_pages(&mut self, pages: usize) -> Result<(), Error> {
+        let mut bits = vec![0; pages.div_ceil(8)];
+        let loan = ffi::Loan {
+            bytes: bits.as_mut_ptr(),
+            len: bits.len(),
+        };
+        // SAFETY: the bits stay in the guest until the drop, or until the library has others or none.
+        Error::check(unsafe { ffi::kalyubos_guest_keep_pages(&mut self.handle, loan) })?;
+        self.kept = bits;
+        Ok(())
+    }
+
+    /// The bits of the guest's pages in place, to read and to clear between two of its calls: no call clears one. There are none where
+    /// none are kept.
+    pub fn pages(&mut self) -> &mut [u8] {
+        &mut self.kept
     }
 
     /// The interrupt words of the disk and the console. Each call that may move them tells them; a read moves none.

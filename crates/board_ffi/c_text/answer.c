@@ -63,7 +63,7 @@ const char *kalyubos_answer(uint32_t number)
     case KALYUBOS_REGIONS_NOT_APART:
         return "regions stand in ascending order, with a gap between each two";
     case KALYUBOS_BAD_LOAN:
-        return "each region of each slot needs a loan of its length, and each page of a slot's memory a bit";
+        return "each region needs a loan of its length, and each page of the memory a bit";
     case KALYUBOS_BAD_DEPTH:
         return "a disk that the host serves has 1 to 64 operations in flight";
     case KALYUBOS_OTHER_DEVICES:

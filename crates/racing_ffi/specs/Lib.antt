@@ -8,3 +8,4 @@ pub mod Config
 pub mod Create
 pub mod Places
 pub mod Memory
+pub mod Pages

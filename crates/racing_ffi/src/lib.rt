@@ -2,7 +2,7 @@
 //!
 //! Each export takes a handle, does what the session behind it does, and answers a number. `handle` is what C holds, `codes` the
 //! numbers, `pending` what waits once a call is answered. `slot` judges how C describes a guest, `config` is what a guest is made
-//! of. `create` makes a guest and destroys it. `registers`, `console`, `disk`, `fault`, `place` and `memory` have the calls on one, and
+//! of. `create` makes a guest and destroys it. `registers`, `console`, `disk`, `fault`, `place`, `memory` and `pages` have the calls on one, and
 //! `window` says whose a window of a number is.
 #![tactic(auto)]
 
@@ -17,6 +17,7 @@ mod fault;
 mod frame;
 mod handle;
 mod memory;
+mod pages;
 mod pending;
 mod place;
 mod registers;

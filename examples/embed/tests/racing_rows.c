@@ -557,6 +557,47 @@ static void a_devices_queue_in_other_memory(void)
     }
 }
 
+/* ---- which pages are marked */
+
+/* One bit for each page from LOW to the end of HIGH: HIGH's first page is number 65536, the lowest bit of byte 8192. */
+enum { PAGES_LEN = 8193, LEAST_FAR = 8192 };
+static uint8_t bits[PAGES_LEN], none[PAGES_LEN];
+
+/* These bits of the first byte and of the last are set, and no other. */
+static bool marked(uint8_t front, uint8_t back)
+{
+    return bits[0] == front && bits[LEAST_FAR] == back && memcmp(bits + 1, none, LEAST_FAR - 1) == 0;
+}
+
+/* Puts a buffer of five bytes on offer, which marks no page, and has five bytes typed into it. */
+static void type_into(uint16_t chain, uint64_t at)
+{
+    size_t took = 0;
+    memset(bits, 0, sizeof bits);
+    describe(chain, at, 5, WRITE);
+    offer(chain, chain);
+    need(marked(0, 0), "what its driver stores", at);
+    need(kalyubos_guest_input(&guest, (const uint8_t *)"12345", 5, &took, &pending) == KALYUBOS_DONE && took == 5, "five bytes", at);
+}
+
+/* The used ring lies in LOW's first page, and DATA in its second. */
+static void pages_of_stores_are_marked(void)
+{
+    begin(0);
+    bring_up(KALYUBOS_CONSOLE, VERSION_1, RECEIVE, USUAL);
+    need(kalyubos_guest_keep_pages(&guest, (struct kalyubos_loan){ bits, LEAST_FAR }) == KALYUBOS_BAD_LOAN, "a page without a bit", 0);
+    need(kalyubos_guest_keep_pages(&guest, (struct kalyubos_loan){ bits, PAGES_LEN }) == KALYUBOS_DONE, "bits enough", 0);
+    type_into(0, HIGH + 4096 - 8);
+    need(marked(1, 1), "the page of a used ring and that of a buffer", 0);
+    type_into(1, HIGH + 4096 - 2);
+    need(marked(1, 3), "a buffer across two pages", 0);
+    type_into(2, DATA);
+    need(marked(3, 0), "two pages of one region", 0);
+    need(kalyubos_guest_keep_pages(&guest, (struct kalyubos_loan){ NULL, 0 }) == KALYUBOS_DONE, "no bits", 0);
+    type_into(3, DATA);
+    need(marked(0, 0), "no bits are kept", 0);
+}
+
 /* ---- a CPU that writes between two reads */
 
 /* HIGH is a file's from now on, and the library has it where each access is seen. A CPU adds 3 to its first word behind each. */
@@ -627,11 +668,12 @@ int main(void)
     a_second_console();
     a_devices_fault_is_noted();
     a_devices_queue_in_other_memory();
+    pages_of_stores_are_marked();
     meddle();
     each_buffer_goes_out_as_it_was_copied();
     the_segment_that_is_judged_is_told();
     kalyubos_guest_destroy(&guest);
-    puts("racing_rows: which bytes of its words a guest that runs on finds changed, what its queues show, where a service stops, and"
-         " what comes of a CPU that writes between two reads");
+    puts("racing_rows: which bytes of its words a guest that runs on finds changed, what its queues show, where a service stops, which"
+         " pages are marked, and what comes of a CPU that writes between two reads");
     return 0;
 }
