@@ -16,7 +16,7 @@
  *  - No pointer is null, also where its length is 0, and none in a config. A buffer is as long as its length says, and
  *    none of a call's buffers, structs and out parameters overlaps another, or the handle.
  *  - A `bool` is 0 or 1. 128 KiB of stack are free: kalyubos_create of a library without a proof takes 112, and no
- *    other call more than 27. A guard page behind them turns a smaller stack into a fault.
+ *    other call more than 30. A guard page behind them turns a smaller stack into a fault.
  *  - No call is made in the forked child of a process that had threads. The heap functions return: they neither jump
  *    out by longjmp nor throw.
  *  - Eleven calls touch a guest's memory: kalyubos_write at offset 0x050 (QueueNotify), kalyubos_input, kalyubos_go_on,
