@@ -43,8 +43,8 @@ static void descriptor(uint8_t guest, int place, uint64_t addr, uint32_t len, ui
     describe(memory[guest] + 0x1000, place, addr, len, flags, next);
 }
 
-/* A queue of 256, each of whose chains is one IN of the disk's first `len` bytes into so many buffers. */
-static void bring_up(uint8_t guest, uint32_t len, uint16_t buffers)
+/* A queue of 256 of a disk's window, each of whose chains is one IN of its first `len` bytes into so many buffers. */
+static void bring_up_window(uint8_t guest, uint8_t window, uint32_t len, uint16_t buffers)
 {
     const uint32_t steps[][2] = { { 0x70, 0 }, { 0x70, 1 }, { 0x70, 3 }, { 0x24, 1 }, { 0x20, 1 }, { 0x70, 11 },
                                   { 0x38, RING }, { 0x80, 0x80001000 }, { 0x90, 0x80002000 }, { 0xa0, 0x80003000 },
@@ -53,7 +53,7 @@ static void bring_up(uint8_t guest, uint32_t len, uint16_t buffers)
     size_t memory_len;
     must(kalyubos_memory(&board, guest, BASE, &memory[guest], &memory_len));
     for (size_t i = 0; i < sizeof steps / sizeof *steps; i++)
-        must(kalyubos_write(&board, guest, KALYUBOS_BLOCK, (uint16_t)steps[i][0], 4, steps[i][1], &pending));
+        must(kalyubos_write(&board, guest, window, (uint16_t)steps[i][0], 4, steps[i][1], &pending));
     descriptor(guest, 0, HEADER, 16, 1, 1);
     for (uint16_t i = 0; i < buffers; i++) {
         uint32_t part = len / buffers;
@@ -64,13 +64,23 @@ static void bring_up(uint8_t guest, uint32_t len, uint16_t buffers)
     idx[guest] = 0;
 }
 
+static void bring_up(uint8_t guest, uint32_t len, uint16_t buffers)
+{
+    bring_up_window(guest, KALYUBOS_BLOCK, len, buffers);
+}
+
 /* Offers so many chains, and notifies. */
-static uint32_t notify(uint8_t guest, uint16_t chains)
+static uint32_t notify_window(uint8_t guest, uint8_t window, uint16_t chains)
 {
     struct kalyubos_pending pending;
     idx[guest] += chains;
     memcpy(memory[guest] + (AVAIL - BASE) + 2, &idx[guest], 2);
-    return kalyubos_write(&board, guest, KALYUBOS_BLOCK, 0x50, 4, 0, &pending);
+    return kalyubos_write(&board, guest, window, 0x50, 4, 0, &pending);
+}
+
+static uint32_t notify(uint8_t guest, uint16_t chains)
+{
+    return notify_window(guest, KALYUBOS_BLOCK, chains);
 }
 
 /* Microseconds of processor time: other work on the machine counts for nothing. */
@@ -94,7 +104,7 @@ static void make(bool hosted, uint32_t depth, uint32_t chains, uint64_t bytes)
             .depth = depth,
             .devices = { { .kind = KALYUBOS_CONSOLE_DEVICE, .cols = 80, .rows = 25 },
                          { .kind = KALYUBOS_NETWORK, .mtu = 1500 }, { .kind = KALYUBOS_ENTROPY },
-                         { .kind = KALYUBOS_DISK, .sectors = LEN / 512 },
+                         { .kind = KALYUBOS_DISK, .sectors = SECTORS, .depth = depth },
                          { .kind = hosted || i ? KALYUBOS_NO_DEVICE : KALYUBOS_IMAGE_DISK, .sectors = LEN / 512 } },
         };
     config.image = image;
@@ -164,18 +174,18 @@ static void time_of(const char *what, uint32_t chains, uint64_t bytes, uint32_t 
 }
 
 /* Asks what a guest's disk is asked for with a tag, which is an IN of so many bytes. */
-static void ask(uint8_t guest, uint8_t tag, uint32_t len)
+static void ask(uint8_t guest, uint8_t window, uint8_t tag, uint32_t len)
 {
     static struct kalyubos_run runs[KALYUBOS_RUNS];
     struct kalyubos_operation operation;
-    must(kalyubos_operation(&board, guest, KALYUBOS_BLOCK, tag, &operation, runs, KALYUBOS_RUNS));
+    must(kalyubos_operation(&board, guest, window, tag, &operation, runs, KALYUBOS_RUNS));
     if (operation.len != len)
         must(KALYUBOS_IDLE);
 }
 
 /* How long the hostile guest's calls and the others' waits took, the best of RUNS runs that do the same. */
-enum { RUNS = 20, MOST_CALLS = CHAINS + CHAINS / RING };
-static double call_took[MOST_CALLS], wait_took[MOST_CALLS][GUESTS];
+enum { RUNS = 20, MOST_CALLS = CHAINS + CHAINS / RING, PAUSING_CALLS = MOST_CALLS + CHAINS / RING * (KALYUBOS_TAGS - 1) };
+static double call_took[PAUSING_CALLS], wait_took[PAUSING_CALLS][GUESTS];
 
 static void keep_best(double *best, double took, int run)
 {
@@ -199,26 +209,28 @@ enum { CONSOLE = KALYUBOS_DEVICE, CARD, ENTROPY, DISK, IMAGE_DISK };
 
 static void begin_reads(const struct hostile *it)
 {
-    bring_up(0, it->len, it->buffers);
+    bring_up_window(0, it->window, it->len, it->buffers);
 }
 
-/* Its disk: it notifies, or says that one of its operations is done. */
+/* Its disk: it notifies, its service goes on, or the host says that one of its operations is done. */
 static uint32_t call_disk(const struct hostile *it, uint32_t answer)
 {
     struct kalyubos_pending pending;
     uint64_t before = 0, after = 0;
-    must(kalyubos_in_flight(&board, 0, KALYUBOS_BLOCK, &before));
-    if (before == 0) {
-        answer = notify(0, RING);
+    must(kalyubos_in_flight(&board, 0, it->window, &before));
+    if (answer == KALYUBOS_MORE) {
+        answer = kalyubos_go_on(&board, 0, &pending);
+    } else if (before == 0) {
+        answer = notify_window(0, it->window, RING);
     } else {
         uint8_t tag = (uint8_t)__builtin_ctzll(before);
         before &= before - 1;
-        answer = kalyubos_completed(&board, 0, KALYUBOS_BLOCK, tag, false, &pending);
+        answer = kalyubos_completed(&board, 0, it->window, tag, false, &pending);
     }
-    must(answer == KALYUBOS_IO ? KALYUBOS_DONE : answer);
-    must(kalyubos_in_flight(&board, 0, KALYUBOS_BLOCK, &after));
+    must(answer == KALYUBOS_IO || answer == KALYUBOS_MORE ? KALYUBOS_DONE : answer);
+    must(kalyubos_in_flight(&board, 0, it->window, &after));
     for (uint64_t fresh = after & ~before; fresh != 0; fresh &= fresh - 1)
-        ask(0, (uint8_t)__builtin_ctzll(fresh), it->len);
+        ask(0, it->window, (uint8_t)__builtin_ctzll(fresh), it->len);
     return answer;
 }
 
@@ -334,7 +346,7 @@ static void read_once(const struct hostile *it, uint8_t guest)
         return;
     }
     must(answer == KALYUBOS_IO ? KALYUBOS_DONE : KALYUBOS_IDLE);
-    ask(guest, 0, LEN);
+    ask(guest, KALYUBOS_BLOCK, 0, LEN);
     must(kalyubos_completed(&board, guest, KALYUBOS_BLOCK, 0, false, &pending));
 }
 
@@ -382,7 +394,7 @@ static void time_beside(const char *what, struct hostile it)
         run_beside(&it, run);
     take_in_all(&it, 0);
     tell(what);
-    if (it.depth > 1) {
+    if (it.depth > 1 && it.window == KALYUBOS_BLOCK) {
         take_in_all(&it, 1 + RING);
         tell("  but for the notifications, which begin them all");
     }
@@ -422,8 +434,14 @@ int main(void)
                 (struct hostile){ begin_entropy, call_other, CHAINS / RING, 1, 0, 0, 0, ENTROPY, false });
     time_beside("256 tables to an entropy device, 1 chain",
                 (struct hostile){ begin_entropy, call_other, CHAINS, 1, 1, 0, 0, ENTROPY, false });
+    time_beside("256 chains of 254 buffers to a further disk, none",
+                (struct hostile){ begin_reads, call_disk, MOST_CALLS, KALYUBOS_TAGS, 0, LARGE, 254, DISK, false });
+    time_beside("256 chains of 254 buffers to a further disk, 1",
+                (struct hostile){ begin_reads, call_disk, PAUSING_CALLS, KALYUBOS_TAGS, 1, LARGE, 254, DISK, false });
+    time_beside("256 tables to a further disk, no budget",
+                (struct hostile){ begin_others, call_other, CHAINS / RING, 1, 0, 0, 0, DISK, false });
     time_beside("256 tables to a further disk, 1 chain",
-                (struct hostile){ begin_others, call_other, CHAINS / RING, 1, 1, 0, 0, DISK, false });
+                (struct hostile){ begin_others, call_other, CHAINS, 1, 1, 0, 0, DISK, false });
     time_beside("256 tables to a further disk of the image, none",
                 (struct hostile){ begin_others, call_other, CHAINS / RING, 1, 0, 0, 0, IMAGE_DISK, true });
     time_beside("256 tables to a further disk of the image, 1",

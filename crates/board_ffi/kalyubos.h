@@ -369,7 +369,8 @@ uint32_t kalyubos_read(const struct kalyubos *board, uint8_t slot, uint8_t windo
  * buffer doesn't notify again, and Linux's console spins for ever on it.
  *
  * Of the window of a disk that the host serves: IO says that the write is done, and that operations began with it, one
- * at least; no other answer says so. BUSY: the write, to Status (0x070) or QueueReady (0x044), waits for all that is in
+ * at least; no other answer says so. MORE, of a further disk: operations may have begun with it, and may with each
+ * kalyubos_go_on; kalyubos_in_flight tells them. BUSY: the write, to Status (0x070) or QueueReady (0x044), waits for all that is in
  * flight of this disk. The CPU that made it waits with it; make the same write again once all is completed or dropped.
  * All else goes on meanwhile.
  *
@@ -404,9 +405,10 @@ uint32_t kalyubos_go_on(struct kalyubos *board, uint8_t slot, struct kalyubos_pe
  * `tags` is set where the operation of tag n is in flight. It is 0 for a slot whose disk is of the image.
  *
  * An operation keeps its tag until it is completed or dropped; then the tag is free for another. Several may begin with
- * one call, each with the lowest tag that is free then. The host remembers the tags that it has begun. After IO it asks
- * kalyubos_operation for each tag that is in flight and not begun, and begins it. It forgets a tag once kalyubos_completed has
- * taken it, and before it asks again what is in flight: that call may have used the tag for another operation.
+ * one call, each with the lowest tag that is free then. The host remembers the tags that it has begun. After IO, and of a
+ * further disk after MORE and at the end of its service, it asks kalyubos_operation for each tag that is in flight and not
+ * begun, and begins it. It forgets a tag once kalyubos_completed has taken it, and before it asks again what is in flight:
+ * that call may have used the tag for another operation.
  */
 uint32_t kalyubos_in_flight(const struct kalyubos *board, uint8_t slot, uint8_t window, uint64_t *tags);
 

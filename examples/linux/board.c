@@ -409,9 +409,18 @@ struct board_flights board_flights(uint8_t slot, uint8_t disk)
     return flights[slot][disk];
 }
 
+/* Whether operations began that this host doesn't know of: a service that paused doesn't tell. */
+static bool has_asked(uint8_t slot, uint8_t window)
+{
+    uint64_t tags = 0;
+    return window >= BOARD_DEVICES && is_hosted(disk_of(window))
+           && kalyubos_in_flight(&board, slot, window, &tags) == KALYUBOS_DONE && (tags & ~disks[slot][disk_of(window)].begun) != 0;
+}
+
 uint32_t board_go_on(uint8_t slot)
 {
-    return settle(slot, record_go_on(&board, slot, &waits[slot]));
+    uint32_t answer = record_go_on(&board, slot, &waits[slot]);
+    return settle(slot, answer == KALYUBOS_DONE && has_asked(slot, served[slot].window) ? KALYUBOS_IO : answer);
 }
 
 bool board_is_paused(uint8_t slot)

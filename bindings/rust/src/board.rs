@@ -61,7 +61,8 @@ pub struct Pending {
     /// Whether the slot's service pauses: [`Board::go_on`] goes on with it. Of a guest that runs on, whether a queue is due, which
     /// [`RunningGuest::go_on`](crate::RunningGuest::go_on) serves.
     pub more: bool,
-    /// Whether operations of the disk began that the call was for, which wait for the host: [`Board::in_flight`] says which.
+    /// Whether operations of the disk began that the call was for, which wait for the host: [`Board::in_flight`] says which. Of a
+    /// further disk they may have begun too where `more` is true, and may with each [`Board::go_on`].
     pub io: bool,
 }
 

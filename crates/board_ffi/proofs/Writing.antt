@@ -1,5 +1,5 @@
 -- What a call is answered whose service may pause, or ask a disk for something.
-use Rattle.std.proofs.Common.{◌≡◌, ℕ, ◌↔◌, Result, Ok, Err, IfOk, inl, inr, refl}
+use Rattle.std.proofs.Common.{◌≡◌, ◌≢◌, ℕ, ◌↔◌, Result, Ok, Err, IfOk, inl, inr, refl, sym, subst, ◌∙◌}
 use Rattle.std.specs.Prelude.{◌==◌, ◌||◌, IsTrue}
 use Rattle.std.specs.Global.{Global}
 use Rattle.board.specs.declared.event.EventKind.{EventKind}
@@ -57,4 +57,48 @@ may_ask slot what IsAsked answer old new h asks =
       told = stands.0;
       code_is = stands.1;
       asks = asks_by IsAsked answer asks;
+    }
+
+-- ---- where operations may begin with a service that pauses, which doesn't tell it
+
+refused_unserved : (why : Refusal) → IsTrue (is_served (refusal_code why)) → ⊥
+refused_unserved BadSlot done = cc (done)
+refused_unserved why done = cc (done)
+
+at_end : (P : Type 0) (code : ℕ) → code ≡ 0 → ((Done ≡ Asks) ↔ (P × (Done ≢ More))) → (code ≡ 20) ↔ (P × (code ≢ 18))
+at_end P code is asks = (
+  λ twenty. absurd (let no : 0 ≡ 20 = sym is ∙ twenty in cc (no)),
+  λ p. absurd (let same : Done ≡ Asks = asks.1 (p.0, λ more. cc (more)) in cc (same)),
+)
+
+in_pause : (P : Type 0) (code : ℕ) → code ≡ 18 → (code ≡ 20) ↔ (P × (code ≢ 18))
+in_pause P code is = (λ twenty. absurd (let no : 18 ≡ 20 = sym is ∙ twenty in cc (no)), λ p. absurd (p.1 is))
+
+asking : (P : Type 0) (code : ℕ) → code ≡ 20 → ((Asks ≡ Asks) ↔ (P × (Asks ≢ More))) → (code ≡ 20) ↔ (P × (code ≢ 18))
+asking P code is asks =
+    (λ twenty. ((asks.0 refl).0, λ more. (let no : 20 ≡ 18 = sym is ∙ more in cc (no))), λ p. is)
+
+asks_at_end : (P : Type 0) (answer : Result Progress Refusal) (code : ℕ) → code ≡ went_on_code answer
+    → IfOk answer (λ progress. (progress ≡ Asks) ↔ (P × (progress ≢ More)))
+    → IsTrue (is_served code) → (code ≡ 20) ↔ (P × (code ≢ 18))
+asks_at_end P (Ok Done) code is asks done = at_end P code is asks
+asks_at_end P (Ok More) code is asks done = in_pause P code is
+asks_at_end P (Ok Asks) code is asks done = asking P code is asks
+asks_at_end P (Err why) code is asks done =
+    absurd (refused_unserved why (subst (λ (k : ℕ). IsTrue (is_served k)) is done))
+
+pub may_ask_at_end : (slot : ℕ) (what : EventKind Global) (P : Type 0) (answer : Result Progress Refusal) (code : ℕ)
+    (old new : SessionState) → code ≡ went_on_code answer
+    → IsToldCall {A = Global} old slot what (Means served_response answer) new
+    → IfOk answer (λ progress. (progress ≡ Asks) ↔ (P × (progress ≢ More)))
+    → MayAsk slot what (P × (code ≢ 18)) code old new
+may_ask_at_end slot what P answer code old new is h asks =
+    let stands = served answer h.response h.told in
+    record {
+      response = h.response;
+      call = h.call.turn;
+      whole = h.call.whole;
+      told = subst (λ (k : ℕ). StandsFor k reply.Done h.response) (sym is) stands.0;
+      code_is = subst (λ (k : ℕ). IsTrue ((k == 20) || is_response k)) (sym is) stands.1;
+      asks = asks_at_end P answer code is asks;
     }

@@ -57,15 +57,16 @@ pub record MayAsk (slot : ℕ) (what : EventKind Global) (Asks : Type 0) (code :
   pub code_is : IsTrue ((code == 20) || is_response code)
   pub asks : IsTrue (is_served code) → ((code ≡ 20) ↔ Asks)
 
--- operations began with a write of a window: of the slot's own disk, or of the further one whose window it is
-abbrev pub HasAskedBehind : ℕ → Option ℕ → SessionState → SessionState → Type 0
-HasAskedBehind slot None old new = HasAsked slot Own old new
-HasAskedBehind slot (Some n) old new = HasAsked slot (Further n) old new
+-- operations began with a write of a window: of the slot's own disk, or of the further one whose window it is, where its
+-- service doesn't pause
+abbrev pub HasAskedBehind : ℕ → Option ℕ → ℕ → SessionState → SessionState → Type 0
+HasAskedBehind slot None code old new = HasAsked slot Own old new
+HasAskedBehind slot (Some n) code old new = HasAsked slot (Further n) old new × (code ≢ 18)
 
 -- a guest's write, of the window of the further device of this number if it is one's: its disk is asked for something where
 -- operations began with it
 abbrev pub Writes : ℕ → Option ℕ → EventKind Global → ℕ → SessionState → SessionState → Type 0
-Writes slot device what code old new = MayAsk slot what (HasAskedBehind slot device old new) code old new
+Writes slot device what code old new = MayAsk slot what (HasAskedBehind slot device code old new) code old new
 
 -- operations began with what the host says of a disk
 abbrev pub HasAskedBy : HostEvent → ℕ → SlotDisk → SessionState → SessionState → Type 0

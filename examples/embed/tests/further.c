@@ -507,6 +507,17 @@ static void check_disk_at_work(void)
     need(store(0, DISK, STATUS, 0) == KALYUBOS_DONE && say(kalyubos_release, 0, DISK) == KALYUBOS_DONE, "a reset and a release", 0);
 }
 
+/* Requests of no known type (5.2.6) ask the disk's host for nothing, and are answered within the budget. */
+static void check_disk_alone(void)
+{
+    enum { UNKNOWN = 99, UNSUPP = 2 };
+    memset(memory + DATA, 0, 16);
+    memory[DATA] = UNKNOWN;
+    need(offer(DISK, 0, request, sizeof request, 3) == more, "three requests of no known type", used());
+    go_on(DISK, 0, 3, 2);
+    need(memory[END] == UNSUPP, "their status", memory[END]);
+}
+
 /* A disk over the image is served within the budget, and asks its host for nothing. It reads what was written to it, which is the image's
  * last sector, and has no other. */
 static void check_image_disk(void)
@@ -587,6 +598,7 @@ static void check_board(struct kalyubos_config *config, uint32_t chains)
     check_output();
     check_lines();
     check_disk_at_work();
+    check_disk_alone();
     check_image_disk();
     if (chains != 0)
         check_pause();

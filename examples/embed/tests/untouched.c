@@ -274,14 +274,24 @@ static void while_drivers_begin(enum kind kind)
     forbid(false);
 }
 
+/* A further disk begins an operation with each call. */
+static void begins_two(void)
+{
+    uint64_t tags;
+    need(kalyubos_in_flight(&board, 0, DISK, &tags) == KALYUBOS_DONE && tags == 1, "the first operation");
+    done(kalyubos_go_on(&board, 0, &pending), "the second request");
+    need(kalyubos_in_flight(&board, 0, DISK, &tags) == KALYUBOS_DONE && tags == 3, "both operations");
+}
+
 /* Two requests are on offer. Leaves both in flight, or over an image a service paused, since a call serves one. */
 static void notify_disk(enum kind kind, uint8_t window)
 {
-    bool asks = kind == HOSTED || window == DISK;
     make(kind);
     bring_up(window, 0, 0, STEPS);
     offer(window, 2);
-    need(set(window, NOTIFY, 4, 0) == (asks ? KALYUBOS_IO : KALYUBOS_MORE), "a notify");
+    need(set(window, NOTIFY, 4, 0) == (kind == HOSTED && window == KALYUBOS_BLOCK ? KALYUBOS_IO : KALYUBOS_MORE), "a notify");
+    if (window == DISK)
+        begins_two();
 }
 
 static void while_a_disk_works(uint8_t window, const char *when)
