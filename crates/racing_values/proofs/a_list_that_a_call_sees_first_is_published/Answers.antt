@@ -1,5 +1,5 @@
 use Rattle.racing_values.proofs.Alone.{list_taken, list_published, list_offered}
-use Rattle.racing_values.proofs.laws.a_list_that_a_call_sees_first_is_published.Goals as goal
+use Rattle.racing_values.proofs.a_list_that_a_call_sees_first_is_published.Goals as goal
 
 pub returns-clause-taken : goal.returns-clause-taken
 returns-clause-taken c = list_taken
