@@ -456,7 +456,7 @@ static void random_bytes(void)
     static const uint8_t BYTES[POOL + 1] = { 0x11, 0x22, 0x33 };
     size_t count = 0;
     begin(0);
-    memset(high, 0xff, sizeof high);
+    memset(high, 0xff, LEN);
     bring_up(ENTROPY, VERSION_1, 0, USUAL);
     describe(0, HIGH + GUARD, 8, WRITE);
     offer(0, 0);
@@ -473,7 +473,7 @@ static void a_frame_is_received(void)
     static const uint8_t FRAME[FRAME_LEN] = { 2, 0, 0, 0, 0, 1, 2, 0, 0, 0, 0, 2, 0x88, 0xb5 };
     bool taken = false;
     begin(0);
-    memset(high, 0xff, sizeof high);
+    memset(high, 0xff, LEN);
     bring_up(CARD, VERSION_1, RECEIVE, USUAL);
     describe(0, HIGH + GUARD, 64, WRITE);
     offer(0, 0);
@@ -514,7 +514,7 @@ static void a_second_console(void)
     uint8_t found[OUTLET];
     size_t count = 0;
     begin(0);
-    memset(high, 0xff, sizeof high);
+    memset(high, 0xff, LEN);
     bring_up(SECOND_CONSOLE, VERSION_1, RECEIVE, USUAL);
     describe(0, HIGH + GUARD, 2, WRITE);
     offer(0, 0);
