@@ -1,53 +1,33 @@
 -- An event that pauses: the service that it asks for, and what the first piece of that leaves.
-use Rattle.std.proofs.Common.{◌≡◌, inl, inr, ℕ, zero, suc, Bool, true, false, List, [], ◌∷◌, length, map, Option, Some, None, refl, sym, ◌∙◌, ap, subst}
-use Rattle.std.specs.Prelude.{if◌then◌else◌, is_none, slice_set, IsSome}
+use Rattle.std.proofs.Common.{◌≡◌, ℕ, zero, suc, Bool, true, false, List, [], ◌∷◌, length, map, Option, Some, None, refl, sym, ◌∙◌, ap, subst}
+use Rattle.std.specs.Prelude.{if◌then◌else◌, is_none, IsSome}
 use Rattle.std.specs.List.{slice_get}
-use Rattle.std.specs.Option.{option_and_then, option_map, option_map_or}
+use Rattle.std.specs.Option.{option_and_then, option_map}
 use Rattle.std.proofs.lemmas.Option.{same_Some}
-use Rattle.guest_memory.specs.Memory.{Memory}
 use Rattle.chain.specs.declared.budget.Budget.{Budget}
 use Rattle.chain.specs.declared.budget.Progress.TheVariants as piece
-use Rattle.mmio_window.specs.declared.action.Action.{Action}
-use Rattle.mmio_window.specs.declared.action.Action.TheVariants.{ConfigWrite}
-use Rattle.mmio_window.specs.declared.queue.Queue.{Queue}
-use Rattle.mmio_window.specs.declared.stage.Stage.{Stage}
 use Rattle.mmio_window.specs.declared.stage.Stage.TheVariants.{First}
-use Rattle.mmio_window.specs.Window.{WindowState}
-use Rattle.mmio_window.specs.Writing.{action_of}
-use Rattle.sector_cache.specs.Disk.{Disk}
-use Rattle.block_device.specs.declared.device.BlockDevice.{BlockDevice}
-use Rattle.block_device.specs.Tags.{taken_bits}
-use Rattle.hosted_disk.specs.Disk.{HostedDisk}
 use Rattle.device_list.specs.Card.{receive_refusal}
-use Rattle.device_list.specs.Device.{DeviceServesTo, DeviceState, device_written, supply_taken, taking}
-use Rattle.device_list.specs.List.{At, DevicesServeTo, IsNoneServed, card_at, changed_at, disk_at, has_more_sent_at, sent_by}
-use Rattle.device_list.specs.Model.{Block, Console, Entropy, Image, ModelServesTo, ModelState, Network, configured, disk_of, image_of}
-use Rattle.device_list.proofs.Pieces.{changed_there}
-use Rattle.board.specs.declared.event.DeviceEvent.{DeviceEvent}
-use Rattle.board.specs.declared.event.DeviceEvent.TheVariants.{Write, Supply, Receive, DropSent}
+use Rattle.device_list.specs.Device.{supply_taken}
+use Rattle.device_list.specs.List.{card_at, has_more_sent_at, sent_by}
+use Rattle.board.specs.declared.event.DeviceEvent.TheVariants.{Supply, Receive, DropSent}
 use Rattle.board.specs.declared.event.EventKind.{EventKind}
 use Rattle.board.specs.declared.event.EventKind.TheVariants.{Device, Input}
 use Rattle.board.specs.declared.pause.Pause.{Pause}
-use Rattle.board.specs.declared.pause.Service.TheVariants.{Further}
 use Rattle.board.specs.declared.pause.Turn.{Turn}
 use Rattle.board.specs.declared.pause.Turn.TheVariants as turn
 use Rattle.board.specs.Devices.{further_service}
 use Rattle.board.specs.Image.{Health}
-use Rattle.board.specs.ImageDisks.{ServesImageDisk, device_readied, image_asked, image_served}
-use Rattle.board.specs.Pausing.{Begins, IsPiece, IsPieceAtDevice, TurnsTo, asked, asked_over_image, input_service, readied}
+use Rattle.board.specs.Pausing.{Begins, IsPiece, TurnsTo, asked, asked_over_image, input_service, readied}
 use Rattle.board.specs.Slot.{BoardSlot, SlotState, state_of}
 use Rattle.board.specs.World.{MayGive}
-use Rattle.board.proofs.AtDevice.{image_left}
-use Rattle.board.specs.declared.slot_disk.SlotDisk.TheVariants.{Further as FurtherDisk}
-use Rattle.session.specs.Operations.{HasAsked, hosted_disk_at}
-use Rattle.board.proofs.FurtherPieces.{Asking, asking}
+use Rattle.board.proofs.FurtherPieces.{asking}
 use Rattle.board.proofs.Lists.{get_set}
 use Rattle.session.specs.declared.response.Response.{Response}
 use Rattle.session.specs.declared.response.Response.TheVariants.{More}
 use Rattle.session.specs.Pacing.{Handle, paused_at, response_to}
 use Rattle.session.specs.Pausing.{ComesTo, IsBegun, IsCall, taken_at}
 use Rattle.session.specs.Session.{SessionState, world_of}
-use Rattle.session.proofs.ImageReplies.{asked_readied}
 use Rattle.session.proofs.Parts.{asks_freely}
 use Rattle.session.specs.Devices.{sent_at, sent_count}
 
