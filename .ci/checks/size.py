@@ -14,7 +14,7 @@ OF_LARGER_PAGES = {
     "crates/conformance/STANDARD.md": 1500,
     "crates/conformance/data/rows/README.md": 680,
     "crates/conformance/peers/QEMU.md": 2600,
-    "crates/conformance/peers/VHOST.md": 580,
+    "crates/conformance/peers/VHOST.md": 600,
     "crates/snapshot/README.md": 750,
     "docs/CHANGING.md": 3450,
     "docs/DECISIONS.md": 1550,
