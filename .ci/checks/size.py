@@ -19,7 +19,7 @@ OF_LARGER_PAGES = {
     "docs/CHANGING.md": 3450,
     "docs/DECISIONS.md": 1550,
     "docs/EMBEDDING.md": 4700,
-    "docs/VHOST.md": 520,
+    "docs/VHOST.md": 625,
     "docs/LIMITS.md": 700,
     "docs/architecture.md": 1200,
     "docs/formats.md": 3150,
