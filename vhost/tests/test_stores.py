@@ -198,6 +198,7 @@ def test_a_lost_connection_fails_what_is_in_flight(make, kind):
 @over(*((kind,) for kind in KINDS))
 def test_requests_wait_for_the_next_connection(make, kind):
     with make(*options_of(kind), store=Nbd) as program, program.machine(kind) as front:
+        same(front.disk.do(disks.IN, 9, wanted=512).status, disks.OK, "a read over the first connection")
         program.store.close()
         names = {sector: front.disk.submit(disks.IN, sector, wanted=512) for sector in range(8)}
         time.sleep(1.5)
@@ -209,6 +210,7 @@ def test_requests_wait_for_the_next_connection(make, kind):
 
 def test_requests_wait_for_ten_seconds(make):
     with make(store=Nbd) as program, program.machine() as front:
+        same(front.disk.do(disks.IN, 9, wanted=512).status, disks.OK, "a read over the first connection")
         program.store.close()
         began, name = time.monotonic(), front.disk.submit(disks.IN, 1, wanted=512)
         front.disk.gather(front.queue.wait(1, 20))
