@@ -13,6 +13,9 @@
 
 static const uint64_t HUGE_PAGE = (uint64_t)1 << 30; /* a mapping of huge pages is aligned as they are */
 
+/* A word of bits of pages; and a block of words, a line of the processor's cache, which is looked at as one. */
+enum { WORD_PAGES = 64, BLOCK_WORDS = 8, BLOCK_PAGES = BLOCK_WORDS * WORD_PAGES };
+
 static _Thread_local struct mapping *watched;
 
 /* ---- the log */
@@ -75,6 +78,16 @@ static uint8_t *reserve(uint64_t len, uint8_t **all)
     return at + (HUGE_PAGE - (uintptr_t)at % HUGE_PAGE) % HUGE_PAGE;
 }
 
+/* A bit for each page, in whole blocks. A page of bits of which none is ever set takes no memory. */
+static uint64_t *make_pages(struct mapping *mapping)
+{
+    const struct kalyubos_region *last = &mapping->regions[mapping->regions_len - 1];
+    uint64_t count = (last->base + last->len - mapping->regions[0].base) / PAGE;
+    mapping->pages_len = (count + BLOCK_PAGES - 1) / BLOCK_PAGES * (BLOCK_PAGES / 8);
+    uint64_t *pages = mmap(NULL, mapping->pages_len, PROT_READ | PROT_WRITE, MAP_PRIVATE | MAP_ANONYMOUS | MAP_NORESERVE, -1, 0);
+    return pages == MAP_FAILED ? NULL : pages;
+}
+
 const char *mapping_open(struct mapping *mapping, const struct memory *memory, struct page_log *log)
 {
     memset(mapping, 0, sizeof *mapping);
@@ -84,14 +97,14 @@ const char *mapping_open(struct mapping *mapping, const struct memory *memory, s
         return why;
     if (log != NULL && memory_end(memory) / PAGE > log->len * 8)
         return "the log of pages is too short for the memory";
-    if (log != NULL)
+    if (log != NULL) {
         atomic_fetch_add(&log->shares, 1);
-    mapping->log = log;
+        mapping->log = log;
+        mapping->pages = make_pages(mapping);
+    }
     mapping->len = memory_end(memory) + HUGE_PAGE;
-    mapping->base = mapping->data = reserve(mapping->len, &mapping->all);
-    if (mapping->base != NULL && log != NULL)
-        mapping->data = reserve(mapping->len, &mapping->data_all);
-    if (mapping->base == NULL || mapping->data == NULL) {
+    mapping->base = reserve(mapping->len, &mapping->all);
+    if (mapping->base == NULL || (log != NULL && mapping->pages == NULL)) {
         mapping_close(mapping);
         return "there are no addresses for the guest's memory";
     }
@@ -103,11 +116,12 @@ static bool cover(uint8_t *at, uint64_t len)
     return mmap(at, len, PROT_READ | PROT_WRITE, MAP_PRIVATE | MAP_ANONYMOUS | MAP_NORESERVE | MAP_FIXED, -1, 0) != MAP_FAILED;
 }
 
-static bool map_files(uint8_t *base, const struct memory *memory, int protection, int sharing)
+static bool map_files(uint8_t *base, const struct memory *memory, int sharing)
 {
     for (unsigned i = 0; i < memory->len; i++) {
         const struct region *it = &memory->regions[i];
-        if (mmap(base + it->guest, it->size, protection, sharing | MAP_NORESERVE | MAP_FIXED, it->file, (off_t)it->offset) == MAP_FAILED)
+        if (mmap(base + it->guest, it->size, PROT_READ | PROT_WRITE, sharing | MAP_NORESERVE | MAP_FIXED, it->file,
+                 (off_t)it->offset) == MAP_FAILED)
             return false;
     }
     return true;
@@ -115,46 +129,69 @@ static bool map_files(uint8_t *base, const struct memory *memory, int protection
 
 const char *mapping_guest(struct mapping *mapping)
 {
-    bool has_two = mapping->data != mapping->base;
-    if (map_files(mapping->base, &mapping->memory, has_two ? PROT_READ : PROT_READ | PROT_WRITE, MAP_SHARED) &&
-        (!has_two || map_files(mapping->data, &mapping->memory, PROT_READ | PROT_WRITE, MAP_SHARED)))
-        return NULL;
-    return "a region of memory can't be mapped";
+    bool is_mapped = map_files(mapping->base, &mapping->memory, MAP_SHARED);
+    return is_mapped ? NULL : "a region of memory can't be mapped";
 }
 
 bool mapping_part(struct mapping *mapping)
 {
-    return map_files(mapping->base, &mapping->memory, PROT_READ | PROT_WRITE, MAP_PRIVATE) &&
-           (mapping->data == mapping->base || map_files(mapping->data, &mapping->memory, PROT_READ | PROT_WRITE, MAP_PRIVATE));
+    return map_files(mapping->base, &mapping->memory, MAP_PRIVATE);
 }
 
 void mapping_close(struct mapping *mapping)
 {
     if (mapping->all != NULL)
         munmap(mapping->all, mapping->len);
-    if (mapping->data_all != NULL)
-        munmap(mapping->data_all, mapping->len);
+    if (mapping->pages != NULL)
+        munmap(mapping->pages, mapping->pages_len);
     page_log_drop(mapping->log);
-    mapping->all = mapping->data_all = NULL;
+    mapping->all = NULL;
+    mapping->pages = NULL;
     mapping->log = NULL;
 }
 
 /* ---- marks */
+
+static void mark_page(const struct mapping *mapping, uint64_t page)
+{
+    __atomic_fetch_or(&mapping->log->bits[page / 8], (uint8_t)(1 << page % 8), __ATOMIC_SEQ_CST);
+}
 
 void mapping_mark(const struct mapping *mapping, uint64_t guest, uint64_t len)
 {
     if (mapping->log == NULL || len == 0)
         return;
     for (uint64_t page = guest / PAGE; page <= (guest + len - 1) / PAGE; page++)
-        __atomic_fetch_or(&mapping->log->bits[page / 8], (uint8_t)(1 << page % 8), __ATOMIC_SEQ_CST);
+        mark_page(mapping, page);
 }
 
-void mapping_shut(struct mapping *mapping)
+/* Carries a block's bits over, and clears them. */
+static void carry_block(struct mapping *mapping, uint64_t at)
 {
-    while (mapping->opened_len > 0) {
-        uint64_t at = mapping->opened[--mapping->opened_len];
-        (void)mprotect(mapping->base + at, PAGE, PROT_READ);
-        mapping_mark(mapping, at, PAGE); /* behind what was written */
+    for (uint64_t end = at + BLOCK_WORDS; at < end; at++) {
+        uint64_t first = mapping->regions[0].base / PAGE + at * WORD_PAGES;
+        for (uint64_t left = mapping->pages[at]; left != 0; left &= left - 1)
+            mark_page(mapping, first + (uint64_t)__builtin_ctzll(left));
+        mapping->pages[at] = 0;
+    }
+}
+
+static bool has_any(const uint64_t block[BLOCK_WORDS])
+{
+    uint64_t any = 0;
+    for (unsigned i = 0; i < BLOCK_WORDS; i++)
+        any |= block[i];
+    return any != 0;
+}
+
+void mapping_carry(struct mapping *mapping)
+{
+    for (unsigned i = 0; mapping->pages != NULL && i < mapping->regions_len; i++) {
+        uint64_t from = (mapping->regions[i].base - mapping->regions[0].base) / PAGE;
+        uint64_t to = from + mapping->regions[i].len / PAGE;
+        for (uint64_t at = from / BLOCK_PAGES * BLOCK_WORDS; at * WORD_PAGES < to; at += BLOCK_WORDS)
+            if (has_any(&mapping->pages[at]))
+                carry_block(mapping, at);
     }
 }
 
@@ -165,21 +202,6 @@ void mapping_watch(struct mapping *mapping)
     watched = mapping;
 }
 
-/* A store to a page that is logged: opens it. Where too many are open all are shut first, since each store is one step. */
-static bool open_page(struct mapping *mapping, uint64_t at)
-{
-    if (mapping->log == NULL || at >= memory_end(&mapping->memory))
-        return false;
-    if (mapping->opened_len == OPENED)
-        mapping_shut(mapping);
-    at -= at % PAGE;
-    if (mprotect(mapping->base + at, PAGE, PROT_READ | PROT_WRITE) != 0)
-        return false;
-    mapping->opened[mapping->opened_len++] = at;
-    mapping->faults++;
-    return true;
-}
-
 /* An access behind the end of a file that was cut: puts unshared memory over the region, or over the log. */
 static bool cover_cut(struct mapping *mapping, uint8_t *address)
 {
@@ -188,11 +210,9 @@ static bool cover_cut(struct mapping *mapping, uint8_t *address)
         return cover(mapping->log->bits, mapping->log->len);
     for (unsigned i = 0; i < mapping->memory.len; i++) {
         const struct region *it = &mapping->memory.regions[i];
-        uint8_t *at = mapping->base + it->guest, *data = mapping->data + it->guest;
+        uint8_t *at = mapping->base + it->guest;
         if (address >= at && address < at + it->size)
             return cover(at, it->size);
-        if (address >= data && address < data + it->size)
-            return cover(data, it->size);
     }
     return false;
 }
@@ -200,11 +220,8 @@ static bool cover_cut(struct mapping *mapping, uint8_t *address)
 static void handle_fault(int number, siginfo_t *info, void *context)
 {
     int error = errno;
-    uint8_t *address = info->si_addr;
     (void)context;
-    bool is_handled = watched != NULL && (number == SIGBUS ? cover_cut(watched, address)
-                                                           : open_page(watched, (uint64_t)(address - watched->base)));
-    if (!is_handled)
+    if (watched == NULL || !cover_cut(watched, info->si_addr))
         (void)signal(number, SIG_DFL); /* it comes again, and ends the program */
     errno = error;
 }
@@ -213,6 +230,5 @@ void mapping_handle_faults(void)
 {
     struct sigaction action = { .sa_sigaction = handle_fault, .sa_flags = SA_SIGINFO | SA_NODEFER };
     sigemptyset(&action.sa_mask);
-    sigaction(SIGSEGV, &action, NULL);
     sigaction(SIGBUS, &action, NULL);
 }

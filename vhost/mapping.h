@@ -29,18 +29,15 @@ void page_log_drop(struct page_log *log);
  * The byte of guest-physical address g lies at base + g. Regions that touch are one region, as the library asks. No other queue's
  * words are the same, so each queue is a guest of the library for itself.
  *
- * The library doesn't tell which pages it writes to. While they are logged its mapping can't be written: a fault marks the page and
- * opens it, until mapping_shut. The disk's bytes move through `data`, a second mapping, and mapping_mark marks their pages. The
- * library's own call that has pages marked (as kalyubos_keep_pages has it for boards) would replace both.
+ * While pages are logged the library sets a bit in `pages` for each that it writes to, as kalyubos_guest_keep_pages has it, and
+ * mapping_carry brings them into the log. mapping_mark marks those of the disk's bytes.
  */
-enum { OPENED = 64 };
 struct mapping {
-    uint8_t *all, *base, *data_all, *data;
+    uint8_t *all, *base;
     struct memory memory; /* a copy, whose files aren't owned */
     struct page_log *log; /* NULL where nothing is logged */
-    uint64_t opened[OPENED];
-    unsigned opened_len;
-    uint64_t len, faults;
+    uint64_t *pages;      /* from the first region's base to the last one's end; NULL where nothing is logged */
+    uint64_t len, pages_len; /* in bytes */
     volatile sig_atomic_t is_cut; /* the front end cut its memory or its log, and other memory lies there now */
     unsigned regions_len;
     struct kalyubos_region regions[KALYUBOS_REGIONS];
@@ -52,13 +49,14 @@ const char *mapping_open(struct mapping *mapping, const struct memory *memory, s
 const char *mapping_guest(struct mapping *mapping);
 /* Puts a copy of the guest's memory in its place: what is read is the guest's, and what is written from now on is seen by nobody. */
 bool mapping_part(struct mapping *mapping);
-/* Marks the pages of these bytes; marks and shuts what a fault opened. */
+/* Marks the pages of these bytes. */
 void mapping_mark(const struct mapping *mapping, uint64_t guest, uint64_t len);
-void mapping_shut(struct mapping *mapping);
+/* Marks the pages that the library wrote to since the last time, between two of its calls. It looks at each page's bit. */
+void mapping_carry(struct mapping *mapping);
 /* Has this thread's faults in the mapping handled. */
 void mapping_watch(struct mapping *mapping);
 void mapping_close(struct mapping *mapping);
-/* Installs the handlers of faults, once for the program. */
+/* Installs the handler of faults, once for the program. */
 void mapping_handle_faults(void);
 
 #endif

@@ -44,6 +44,7 @@ static const char *prepare(struct server *server, const struct queue *queue)
         why = window_drive(&server->window, origin->features, &server->layout);
         why = why != NULL ? why : place_set(&server->window, &server->layout, queue->base);
         why = why != NULL ? why : mapping_guest(&server->mapping);
+        why = why != NULL ? why : window_keep_pages(&server->window, &server->mapping);
         if (why != NULL)
             window_end(&server->window);
     }
@@ -114,8 +115,9 @@ static bool give_up(struct server *server, struct queue *queue)
     }
     mapping_watch(&server->mapping);
     queue->base = server->layout.is_packed ? queue->base : place_of_used(&server->mapping, &server->layout);
-    mapping_watch(NULL);
     (void)mapping_part(&server->mapping);
+    mapping_carry(&server->mapping); /* the thread hangs in a system call, and so in none of the library */
+    mapping_watch(NULL);
     say(server->origin.name, "queue %u: its disk hangs, and is given up: no queue starts until it answers", queue->index);
     (void)sem_post(&server->wake);
     return true;
@@ -169,8 +171,8 @@ static void finish(struct queue *queue)
         queue->base = server->base;
     if (has_ended && server->origin.disk->verbose)
         say(server->origin.name, "queue %u stops at %#x: %" PRIu64 " kicks, %" PRIu64 " operations, %" PRIu64 " of them failed, %" PRIu64
-            " calls, %" PRIu64 " enters, %" PRIu64 " pages opened", queue->index, queue->base, server->kicks, server->operations,
-            server->failures, server->calls, server->ring.enters, server->mapping.faults);
+            " calls, %" PRIu64 " enters", queue->index, queue->base, server->kicks, server->operations, server->failures, server->calls,
+            server->ring.enters);
     if (has_ended && !server->is_lost)
         (void)pthread_join(server->thread, NULL);
     else
@@ -195,7 +197,7 @@ void server_hold(struct queue *queue, unsigned seconds)
         finish(queue);
 }
 
-/* Other memory for a server that is held. NULL where it has it, else why not, and then it has what it had. */
+/* Other memory for a server that is held. NULL where it goes on over it, else why it can't go on. */
 static const char *change_memory(struct server *server, const struct queue *queue, const struct origin *origin)
 {
     struct layout layout;
@@ -208,14 +210,13 @@ static const char *change_memory(struct server *server, const struct queue *queu
         return why;
     why = mapping_guest(&mapping);
     why = why != NULL ? why : window_change_memory(&server->window, &mapping);
-    if (why == NULL) {
-        mapping.faults = server->mapping.faults;
-        mapping_close(&server->mapping);
-        server->mapping = mapping;
-    } else {
+    if (why != NULL) {
         mapping_close(&mapping);
+        return why;
     }
-    return why;
+    mapping_close(&server->mapping);
+    server->mapping = mapping;
+    return window_keep_pages(&server->window, &server->mapping);
 }
 
 void server_go_on(struct queue *queue, const struct origin *origin)

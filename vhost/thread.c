@@ -56,7 +56,7 @@ static void begin_one(struct server *server, unsigned tag)
     flight->syncs = flight->writes_zeros = flight->is_begun = flight->failed = false;
     bool has_parts = operation->kind == KALYUBOS_IN || operation->kind == KALYUBOS_OUT;
     for (uint32_t i = 0; has_parts && i < operation->runs; i++)
-        flight->parts[i] = (struct iovec){ server->mapping.data + flight->runs[i].at, flight->runs[i].len };
+        flight->parts[i] = (struct iovec){ server->mapping.base + flight->runs[i].at, flight->runs[i].len };
     server->store->kind->begin(server->store, flight);
 }
 
@@ -68,7 +68,6 @@ static void settle(struct server *server, uint32_t answer)
 {
     uint64_t tags = 0;
     server->is_due = answer == KALYUBOS_MORE;
-    mapping_shut(&server->mapping);
     if (thread_is_left(server))
         return;
     (void)kalyubos_guest_in_flight(&server->window.guest, &tags);
@@ -143,10 +142,28 @@ static void tell_fault(struct server *server)
     (void)eventfd_write(server->error, 1);
 }
 
+/*
+ * Has the log's marks of what the library wrote. To look for them takes longer the more memory there is, so it is done for a sixteenth
+ * of the time at most. The log has all of them at each halt, and so before the front end looks at it for the last time.
+ */
+static void carry_pages(struct server *server)
+{
+    enum { SHARE = 16 };
+    if (server->mapping.log == NULL || thread_is_left(server))
+        return;
+    uint64_t began = thread_microseconds();
+    server->is_behind = began < server->carry_at;
+    if (server->is_behind)
+        return;
+    mapping_carry(&server->mapping);
+    uint64_t ended = thread_microseconds();
+    server->carry_at = ended + SHARE * (ended - began + 1);
+}
+
 static void tell(struct server *server)
 {
     uint32_t word = window_take_interrupt(&server->window);
-    mapping_shut(&server->mapping);
+    carry_pages(server);
     if (server->mapping.is_cut)
         let_go(server, CUT);
     else if ((word & NEEDS_RESET) != 0)
@@ -215,14 +232,31 @@ static void spin(struct server *server)
     while (!ring_has(&server->ring) && thread_microseconds() < until);
 }
 
-/* Waits for the next result, for so many milliseconds at most; at a halt no longer than until its limit is looked at again. */
+/* How many microseconds are left until then. */
+static uint64_t time_until(uint64_t time)
+{
+    uint64_t now = thread_microseconds();
+    return time > now ? time - now : 0;
+}
+
+static int sooner(int most, int other)
+{
+    return most < 0 || most > other ? other : most;
+}
+
+/*
+ * Waits for the next result, for so many milliseconds at most: at a halt no longer than until its limit is looked at again, and where
+ * pages wait for the log, until they come into it.
+ */
 static void wait_for_results(struct server *server, int most)
 {
     enum { LOOK = 50 };
     if (server->is_due)
         most = 0;
-    else if (server->halted_at != 0 && (most < 0 || most > LOOK))
-        most = LOOK;
+    if (server->halted_at != 0)
+        most = sooner(most, LOOK);
+    if (server->is_behind)
+        most = sooner(most, (int)(time_until(server->carry_at) / 1000) + 1);
     if (server->origin.disk->spin != 0 && most != 0)
         spin(server);
     ring_wait(&server->ring, most);
@@ -268,6 +302,7 @@ static bool goes_on(struct server *server)
         settle(server, kalyubos_guest_go_on(&server->window.guest, &server->window.pending));
     if (!take_word(server))
         return false;
+    mapping_carry(&server->mapping);
     server->is_held = true;
     (void)sem_post(&server->is_reached);
     wait_for_wake(server);
@@ -361,6 +396,8 @@ static void serve(struct server *server)
 static void tell_end(struct server *server)
 {
     bool is_waited_for = take_word(server);
+    if (is_waited_for)
+        mapping_carry(&server->mapping);
     if (is_waited_for && server->is_lost && !server->layout.is_packed)
         server->base = place_of_used(&server->mapping, &server->layout);
     else if (is_waited_for && !server->is_lost)

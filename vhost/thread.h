@@ -41,6 +41,8 @@ struct server {
     atomic_int wish, word;           /* of these enums */
     atomic_uint limit;               /* for how many milliseconds a halt waits */
     uint64_t halted_at;
+    uint64_t carry_at;               /* when pages that were written to are carried into the log again */
+    bool is_behind;                  /* some may wait for that */
     sem_t is_reached, wake;          /* the halt; and the thread may leave it */
     pthread_t thread;
     uint64_t kicks, calls, operations, failures;

@@ -76,6 +76,12 @@ const char *window_change_memory(struct window *window, const struct mapping *ma
     return answer == KALYUBOS_DONE ? NULL : kalyubos_answer(answer);
 }
 
+const char *window_keep_pages(struct window *window, const struct mapping *mapping)
+{
+    uint32_t answer = kalyubos_guest_keep_pages(&window->guest, (struct kalyubos_loan){ (uint8_t *)mapping->pages, mapping->pages_len });
+    return answer == KALYUBOS_DONE ? NULL : kalyubos_answer(answer);
+}
+
 void window_end(struct window *window)
 {
     (void)kalyubos_guest_destroy(&window->guest);

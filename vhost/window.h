@@ -36,6 +36,8 @@ struct layout {
 const char *window_make(struct window *window, const struct disk *disk, const struct mapping *mapping);
 /* Gives the guest another mapping, while nothing is in flight. The one before is then free: NULL where it is done, else why not. */
 const char *window_change_memory(struct window *window, const struct mapping *mapping);
+/* Has the library set the mapping's bits of pages that it writes to, or none: NULL where it is done, else why not. */
+const char *window_keep_pages(struct window *window, const struct mapping *mapping);
 void window_end(struct window *window);
 /* What the device offers, its configuration, and how many entries a queue has at most. */
 const char *window_shows(const struct disk *disk, uint64_t *features, uint8_t config[CONFIG_LEN], uint32_t *most);

@@ -214,8 +214,17 @@ class Log:
         return {8 * at + bit for at, byte in enumerate(content) if byte for bit in range(8) if byte >> bit & 1}
 
     def clear(self):
-        os.ftruncate(self.file, 0)
-        os.ftruncate(self.file, self.size)
+        os.pwrite(self.file, bytes(self.size), 0)
+
+    def must_have(self, pages, what, seconds=10):
+        """That all of these pages come to be marked in time."""
+        until = time.monotonic() + seconds
+        while self.lacks(pages) and time.monotonic() < until:
+            time.sleep(0.001)
+        same(self.lacks(pages), [], f"pages that aren't marked {what}")
+
+    def lacks(self, pages):
+        return [page for page in sorted(pages) if not os.pread(self.file, 1, page // 8)[0] >> page % 8 & 1]
 
 
 def begin_log(front, log):
@@ -235,7 +244,8 @@ def wanted_of(front):
 @over(*((kind, indirect, options) for kind in KINDS for indirect in (False, True) for options in ((), ("--direct",))))
 def test_pages_that_are_written_are_marked(make, kind, indirect, options):
     with make(*options_of(kind), *options) as program:
-        memory = Memory(Region(BASE, SIZE), Region(FAR, SIZE))
+        # Bits begin at the first region, which is no multiple of 64 pages, and go on through a gap.
+        memory = Memory(Region(BASE - 5 * PAGE, 5 * PAGE), Region(BASE, SIZE), Region(FAR, SIZE))
         with program.machine(kind, memory=memory, indirect=indirect) as front:
             same(front.offered >> Feature.LOG_ALL & 1, 1, "whether LOG_ALL is offered")
             front.disk.do(disks.IN, 1, wanted=512)
@@ -247,9 +257,14 @@ def test_pages_that_are_written_are_marked(make, kind, indirect, options):
                 front.queue.notify()
                 same(front.disk.result(name).data, program.bytes(sector, count), f"sector {sector}")
                 written = {page for page in changed(before, memory.all()) if page not in own_pages(front)}
-                same(written - log.marked(), set(), "pages that were written and aren't marked")
+                log.must_have(written, f"of sector {sector}")
             same(read_into(front, FAR + SIZE - 512), [513], "the used length")
-            same((FAR + SIZE - 512) // PAGE in log.marked(), True, "whether the last page is marked")
+            log.must_have({(FAR + SIZE - 512) // PAGE}, "of the last page")
+            room = front.disk.room(41)
+            front.memory.write(room, struct.pack("=IIQ", disks.GET_ID, 0, 0))
+            front.queue.offer([(room, 16, 0), (BASE - 5 * PAGE, 20, 2), (FAR + 7 * PAGE, 1, 2)])
+            front.queue.wait()
+            log.must_have({BASE // PAGE - 5, FAR // PAGE + 7}, "of GET_ID")
             same(sorted(page for page in log.marked() if page not in may_be_written(front)), [], "pages that are marked and weren't written")
 
 
@@ -266,7 +281,7 @@ def may_be_written(front):
     pages = set(range(first // PAGE, (last - 1) // PAGE + 1)) | {(FAR + SIZE - 512) // PAGE}
     for slot in range(4):
         pages |= set(range(disk.room(slot) // PAGE, (disk.room(slot) + disk.step) // PAGE + 1))
-    return pages | {disk.room(40) // PAGE}
+    return pages | {disk.room(40) // PAGE, BASE // PAGE - 5, FAR // PAGE + 7}
 
 
 @over(*((kind,) for kind in KINDS))
@@ -278,12 +293,41 @@ def test_marks_go_on_after_they_were_taken(make, kind):
         for turn in range(20):
             log.clear()
             same(front.disk.do(disks.IN, turn, wanted=512).data, program.bytes(turn), f"sector {turn}")
-            room = front.disk.room(0)
-            wanted = {(room + front.disk.DATA) // PAGE, (room + front.disk.STATUS) // PAGE, front.queue.written()[0] // PAGE}
-            until = time.monotonic() + 2
-            while wanted - log.marked() and time.monotonic() < until:
-                time.sleep(0.001)
-            same(wanted - log.marked(), set(), f"pages that aren't marked in turn {turn}")
+            log.must_have(of_a_read(front), f"in turn {turn}")
+
+
+def of_a_read(front, slot=0):
+    """The pages that the device writes to where a slot's request is a read: of data, of its status, and of the ring."""
+    room = front.disk.room(slot)
+    return {(room + front.disk.DATA) // PAGE, (room + front.disk.STATUS) // PAGE, front.queue.written()[0] // PAGE}
+
+
+def by_stop(front):
+    front.stop()
+
+
+def by_plug(front):
+    by_region(front, Region(0xc0000000, SIZE))
+
+
+@over(*((kind, way.__name__) for kind in KINDS for way in (by_stop, by_plug)))
+def test_a_halt_loses_no_mark(make, kind, way):
+    """What is done last before a halt: by a stop's answer its pages are in the log."""
+    with make(*options_of(kind)) as program, program.machine(kind, memory=Memory(Region(BASE, SIZE), Region(FAR, 1 << 28)), most=4096) as front:
+        log = Log(front.memory)
+        begin_log(front, log)
+        for turn in range(8):
+            log.clear()
+            names = [front.disk.submit(disks.IN, sector, wanted=512) for sector in range(turn, turn + 4)]
+            slots = {name: front.disk.slots[name][0] for name in names}
+            {"by_stop": by_stop, "by_plug": by_plug}[way](front)
+            front.disk.gather(front.queue.taken())
+            done = [slots[name] for name in names if name in front.disk.results]
+            log.must_have(set().union(*(of_a_read(front, slot) for slot in done)), f"in turn {turn}", seconds=0 if way == "by_stop" else 10)
+            if way == "by_stop":
+                front.start(front.queue)
+            for name in names:
+                front.disk.result(name)
 
 
 def test_without_the_feature_nothing_is_marked(make):
