@@ -3,14 +3,16 @@ use Rattle.std.proofs.Common.{◌≡◌, ◌∙◌, ℕ, suc, ◌+◌, ◌-◌, 
 use Rattle.std.proofs.lemmas.Bool.{cases_lt}
 use Rattle.std.proofs.lemmas.List.{places, same_lists}
 use Rattle.std.specs.Int.{byte_at, bytes_low_first}
+use Rattle.std.specs.List.{range_with_len}
 use Rattle.byteorder.specs.Endian.{little_bytes}
 use Rattle.guest_memory.specs.declared.spec.RegionSpec.{RegionSpec}
 use Rattle.guest_memory.specs.Faults.{zeroed_regions}
 use Rattle.guest_memory.specs.Memory.{Memory, Inside, SameRange, part_of, put}
 use Rattle.guest_memory.proofs.Ranges.{length-put_at, put_range, put_bytes, same_trans}
 use Rattle.shared_memory.specs.Sightings.{GuestWrites, Loads, Stores, memory}
-use Rattle.shared_memory.proofs.Sightings.{interference_none}
-use Rattle.racing_memory.specs.Past.{Access, Seen, Stood, behind, newest, seen_again, sightings_of}
+use Rattle.shared_memory.specs.Bytes.{StoresEach}
+use Rattle.shared_memory.proofs.Sightings.{interference_none, same_back}
+use Rattle.racing_memory.specs.Past.{Access, Seen, Stood, behind, newest, seen_again, sightings_of, stored_again}
 
 -- an access leaves the range
 behind_range : (access : Access) (m : Memory) → SameRange m (behind access m)
@@ -96,6 +98,29 @@ stores_noted s a k v bs e = record {
   interference = interference_none true (memory (sightings_of s));
   stored = now_noted true s a bs ∙ ap (λ (bs : List ℕ). put (memory (sightings_of s)) a bs) e;
 }
+
+-- bytes that are stored one after another
+pub each_noted : (s : Seen) (a : ℕ) (bs : List ℕ)
+    → StoresEach true (sightings_of s) (sightings_of (stored_again s a bs)) (range_with_len a (length bs)) bs
+each_noted s a [] = refl
+each_noted s a (x ∷ bs) = record {
+  stored = sightings_of (seen_again true s a (x ∷ []));
+  stores = record {
+    extends = record { next = omega arith; kept = kept true s a (x ∷ []) };
+    before = memory (sightings_of s);
+    interference = interference_none true (memory (sightings_of s));
+    stored = now_noted true s a (x ∷ []);
+  };
+  later = each_noted (seen_again true s a (x ∷ [])) (a + 1) bs;
+}
+
+pub each_range : (s : Seen) (a : ℕ) (bs : List ℕ)
+    → SameRange (memory (sightings_of s)) (memory (sightings_of (stored_again s a bs)))
+each_range s a bs =
+    let new = stored_again s a bs in
+    rw (now_is s, now_is new) (same_trans (newest s.regions s.stood s.past) (zeroed_regions s.regions)
+    (newest s.regions s.stood new.past) (same_back (zeroed_regions s.regions) (newest s.regions s.stood s.past)
+    (newest_range s.regions s.stood s.past)) (newest_range s.regions s.stood new.past))
 
 -- the lowest bytes of a number are the first of those of a word
 pub lowest_bytes : (i k n v : ℕ) → n ≤ k → take n (bytes_low_first i k v) ≡ bytes_low_first i n v

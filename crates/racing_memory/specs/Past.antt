@@ -1,5 +1,5 @@
 -- What a memory was seen as, access by access.
-use Rattle.std.specs.Prelude.{◌≡◌, ℕ, ◌-◌, Bool, true, false, List, [], ◌∷◌, length, drop, map}
+use Rattle.std.specs.Prelude.{◌≡◌, ℕ, ◌+◌, ◌-◌, Bool, true, false, List, [], ◌∷◌, length, drop, map}
 use Rattle.guest_memory.specs.Memory.{Memory, Inside, part_of, put_at, stored, with_marks}
 use Rattle.guest_memory.specs.Faults.{zeroed_region, zeroed_regions}
 use Rattle.guest_memory.specs.Regions.{AreApart}
@@ -56,6 +56,14 @@ sightings_of s = record { at = λ k. newest s.regions s.stood (drop (length s.pa
 -- and with one access more
 abbrev pub seen_again : Bool → Seen → ℕ → List ℕ → Seen
 seen_again stores s addr bytes = record s { past = record { addr = addr; bytes = bytes; stores = stores } ∷ s.past }
+
+-- stores of bytes from an address on, one after another
+abbrev pub noted_each : ℕ → List ℕ → List Access → List Access
+noted_each addr [] past = past
+noted_each addr (x ∷ bytes) past = noted_each (addr + 1) bytes (record { addr = addr; bytes = x ∷ []; stores = true } ∷ past)
+
+abbrev pub stored_again : Seen → ℕ → List ℕ → Seen
+stored_again s addr bytes = record s { past = noted_each addr bytes s.past }
 
 -- An access of a range in this memory found the bytes that stand there, or stored the same, and it left the bits of the pages.
 pub record IsFound (m : Memory) (access : Access) : Type 0 where

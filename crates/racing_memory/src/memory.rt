@@ -6,7 +6,7 @@ ghost use Rattle.byteorder.specs.Endian.{little_bytes};
 ghost use Rattle.guest_memory.specs.Memory.{Inside};
 ghost use Rattle.guest_memory.specs.Pages.{bits_of, marked};
 ghost use Rattle.shared_memory.specs.Sightings.{memory};
-ghost use Rattle.racing_memory.specs.Past.{MakeMemory, Stood, newest, seen_again, sightings_of};
+ghost use Rattle.racing_memory.specs.Past.{MakeMemory, Stood, newest, seen_again, sightings_of, stored_again};
 ghost use Rattle.racing_memory.specs.Words.{reaches};
 
 use crate::past::Past;
@@ -145,6 +145,18 @@ impl<'r, 'w> RacingMemory<'r, 'w> {
         self.past.note(addr, bytes);
     }
 
+    // These bytes were stored from an address on, one after another: their pages are marked.
+    #[inline(always)]
+    fn stored_each(&mut self, addr: u64, bytes: &[u8])
+        requires { Inside (newest self.old.regions self.old.stood self.old.past) addr (length bytes.now) }
+        ensures { self.new ≡ stored_again self.old addr bytes.now }
+    {
+        let base = self.regions[0].base();
+        let n = bytes.len() as u64;
+        mark(&mut self.pages, addr - base, n);
+        self.past.note_each(addr, bytes);
+    }
+
     // Stores a number in the `len` bytes from an address on.
     #[inline(always)]
     fn put(&mut self, addr: u64, len: usize, v: u64)
@@ -226,5 +238,11 @@ impl<'r, 'w> Shared for RacingMemory<'r, 'w> {
     #[inline(always)]
     fn store_u64(&mut self, addr: u64, v: u64) {
         self.put(addr, 8, v);
+    }
+
+    fn store(&mut self, addr: u64, bytes: &[u8]) {
+        let place = self.place_inside(addr, bytes.len() as u64);
+        self.regions[place].store_row(addr, bytes);
+        self.stored_each(addr, bytes);
     }
 }

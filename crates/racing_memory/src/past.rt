@@ -2,7 +2,7 @@
 
 ghost use Rattle.std.specs.Prelude.{◌≡◌, Bool, [], ◌∷◌};
 ghost use Rattle.std.specs.Borrow.{ftrue};
-ghost use Rattle.racing_memory.specs.Past.{Noted, Stood};
+ghost use Rattle.racing_memory.specs.Past.{Noted, Stood, noted_each};
 
 use std::marker::{Model, PhantomData};
 
@@ -34,5 +34,10 @@ impl Past {
         ensures { self.new.noted ≡ record self.old.noted {
           past = record { addr = _addr; bytes = _bytes.now; stores = stores } ∷ self.old.noted.past;
         } }
+    {}
+
+    /// These bytes were stored from an address on, one after another.
+    pub(crate) fn note_each(&mut self, _addr: u64, _bytes: &[u8])
+        ensures { self.new.noted ≡ record self.old.noted { past = noted_each _addr _bytes.now self.old.noted.past } }
     {}
 }

@@ -3,7 +3,7 @@
 ghost use Rattle.std.specs.Prelude.{◌≡◌, ◌+◌, ◌*◌, ◌^◌, ◌≤◌, ◌<◌, length, IsTrue};
 ghost use Rattle.racing_memory.specs.Words.{reaches};
 
-use crate::word::{WORD_LEN, copy_of, split_number, store_in_word, word_at};
+use crate::word::{WORD_LEN, copy_of, number_of, split_number, store_in_word, word_at};
 use std::marker::Model;
 use std::sync::atomic::AtomicU64;
 
@@ -150,5 +150,21 @@ impl<'w> RacingRegion<'w> {
         let (low, high) = split_number(v, room);
         store_in_word(self.words, place, room, low);
         store_in_word(self.words, place + room, len - room, high);
+    }
+
+    /// Stores bytes from an address on, word by word. Those of one word change in one step, and no other byte does.
+    #[inline(never)]
+    pub(crate) fn store_row(&self, addr: u64, bytes: &[u8])
+        requires above { self.now.base ≤ addr }
+        requires below { addr + length bytes.now ≤ self.now.base + self.now.len }
+    {
+        let first = (addr - self.base) as usize;
+        let mut done = 0;
+        while done < bytes.len() {
+            let place = first + done;
+            let len = (WORD_LEN - place % WORD_LEN).min(bytes.len() - done);
+            store_in_word(self.words, place, len, number_of(&bytes[done..done + len]));
+            done += len;
+        }
     }
 }

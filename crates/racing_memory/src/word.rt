@@ -64,6 +64,18 @@ fn change_of(word: u64, from: usize, len: usize, v: u64) -> u64
     (((word >> shift) & mask) ^ v) << shift
 }
 
+/// The number that up to eight bytes are, the lowest first.
+#[inline(always)]
+pub(crate) fn number_of(bytes: &[u8]) -> u64
+    requires some { 0 < length bytes.now }
+    requires most { length bytes.now ≤ 8 }
+    ensures { result < 2 ^ (8 * length bytes.now) }
+{
+    let mut word = [0; WORD_LEN];
+    word[..bytes.len()].copy_from_slice(bytes);
+    u64::from_le_bytes(word) & (u64::MAX >> (64 - 8 * bytes.len()))
+}
+
 /// A number's first bytes, so many, and those behind them: the ones that go into a word, and those for the next one.
 #[inline(always)]
 pub(crate) fn split_number(v: u64, first: usize) -> (u64, u64)
